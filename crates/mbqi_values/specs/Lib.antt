@@ -1,0 +1,4 @@
+pub mod FaultKind
+pub mod Status
+pub mod Sum
+pub mod Value
