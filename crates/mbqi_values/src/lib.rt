@@ -12,6 +12,8 @@ pub mod sequence;
 pub mod status;
 pub mod steps;
 pub mod sum;
+#[cfg(test)]
+mod tests;
 pub mod value;
 
 pub use fault::{FaultKind, ReadError, Refusal};
