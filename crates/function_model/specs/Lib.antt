@@ -1,0 +1,4 @@
+pub mod Fits
+pub mod Holds
+pub mod Lookup
+pub mod ValueOf

@@ -1,0 +1,10 @@
+//! Function models: what `sat` shows, and what each candidate of a round is.
+//!
+//! [`model::FunctionModel`] is the one main type. Its meaning stands in `specs/`: `Fits` says which models fit
+//! a script, `value_of` what a term's value is, and `HoldsAt` when a formula holds or fails at a point.
+
+#![tactic(auto)]
+
+pub mod model;
+
+pub use model::{FunctionModel, Row, Rows, Table, TableName, Tables, ValueLists};
