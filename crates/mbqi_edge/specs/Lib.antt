@@ -1,0 +1,7 @@
+pub mod Asked
+pub mod Faults
+pub mod Files
+pub mod MemoryShelf
+pub mod MemorySink
+pub mod Reading
+pub mod Told
