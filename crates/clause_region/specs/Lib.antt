@@ -1,0 +1,2 @@
+pub mod ClauseRegion
+pub mod Run

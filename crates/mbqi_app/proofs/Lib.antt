@@ -1,0 +1,6 @@
+pub mod CommandForms
+pub mod ElementFits
+pub mod Elementary
+pub mod Puts
+pub mod Solved
+pub mod TextLines

@@ -1,0 +1,14 @@
+use Rattle.std.proofs.Common.{◌≡◌, ◌++◌, List, ℕ, append_assoc}
+use Rattle.std.specs.Prelude.{codes}
+use Rattle.mbqi_app.specs.ModelText.{model_text, sorts_text, tables_text}
+use Rattle.mbqi_app.proofs.model_text.write_model.Goals as goal
+
+assembled : (old head sorts tables tail : List ℕ) → old ++ head ++ sorts ++ tables ++ tail ≡ old ++ (head ++ sorts ++ tables ++ tail)
+assembled old head sorts tables tail = simp append_assoc
+
+pub returns : goal.returns
+unfolding model_text
+returns c =
+    let whole = assembled c.args.into.now.items (codes "sat\n(model 1\n") (sorts_text c.args.script.now.sorts c.args.model.now.sizes)
+    (tables_text c.args.script.now.functions c.args.model.now.tables) (codes ")\n") in
+    cc (c.in_ok-extend_from_slice-2.ensures.items, c.in_ok-write_tables.ensures, c.in_ok-write_sorts.ensures, c.in_ok-extend_from_slice.ensures.items)

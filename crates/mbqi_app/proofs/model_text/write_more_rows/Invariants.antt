@@ -1,0 +1,6 @@
+use Rattle.std.proofs.Common.{◌≡◌, ◌++◌, map, take}
+use Rattle.mbqi_app.specs.ModelText.{spaced_rest, row_text}
+use Rattle.mbqi_app.proofs.model_text.write_more_rows.Given as goal
+
+abbrev pub invariant-loop-row : goal.invariant-loop-row
+invariant-loop-row l = l.into.items ≡ l.fn.into.items ++ spaced_rest (map row_text (take l.row-index l.rows))

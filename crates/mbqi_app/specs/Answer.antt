@@ -1,0 +1,165 @@
+use Rattle.std.specs.Prelude.{◌≡◌, ℕ, ◌+◌, ◌<◌, ◌≤◌, ◌⊎◌, List, [], ◌∷◌, length, take, Option, None, Some, Bool, true, false, Result, Ok, Err}
+use Rattle.mbqi_values.specs.declared.fault.ReadError.{ReadError}
+use Rattle.mbqi_values.specs.declared.fault.ReadError.TheVariants as error
+use Rattle.mbqi_values.specs.declared.fault.Refusal.{Refusal}
+use Rattle.mbqi_values.specs.declared.status.Status.{Status}
+use Rattle.mbqi_values.specs.declared.status.Status.TheVariants.{Sat, Unsat, Unknown, Done, No, Words, ScriptRefused, ReadFault, TooLong, WriteFault, Memory, TooWide, ModelRefused, RefutationRefused}
+use Rattle.mbqi_edge.specs.Faults.{Rose}
+use Rattle.mbqi_edge.specs.Files.{Files, Has, Tells}
+use Rattle.mbqi_edge.specs.Told.{with_more}
+use Rattle.mbqi_terms.specs.declared.script.Script.{Script}
+use Rattle.function_model.specs.declared.model.FunctionModel.{FunctionModel}
+use Rattle.function_model.specs.Fits.{Fits}
+use Rattle.function_model.specs.Holds.{Holds}
+use Rattle.mbqi_app.specs.Command.{Command, Solve, asked_for, files_of}
+use Rattle.mbqi_app.specs.Means.{Means}
+use Rattle.mbqi_app.specs.ModelText.{model_text}
+
+-- How many bytes a file may have.
+abbrev pub file_limit : ℕ
+file_limit = 67108864
+
+-- The text is that of a model that fits the script of the bytes, and in which each assertion holds.
+abbrev pub IsSatText : List ℕ → List ℕ → Type 0
+IsSatText bytes text =
+    (script : Script) × (model : FunctionModel) × Means bytes script × Fits script model × Holds model script
+    × (text ≡ model_text script model)
+
+-- What `solve` may write for a file, by its status.
+abbrev pub IsSolution : List ℕ → Status → List ℕ → Type 0
+IsSolution bytes Sat text = IsSatText bytes text
+IsSolution bytes status text = ⊥
+
+-- What a command may write for the contents of its files, by its status.
+abbrev pub IsAnswer : Command → List (List ℕ) → Status → List ℕ → Type 0
+IsAnswer (Solve None file) (bytes ∷ []) status text = IsSolution bytes status text
+IsAnswer command contents status text = ⊥
+
+-- The statuses with an answer.
+abbrev pub is_answered : Status → Bool
+is_answered Sat = true
+is_answered Unsat = true
+is_answered Unknown = true
+is_answered Done = true
+is_answered No = true
+is_answered status = false
+
+-- The statuses after which nothing was written.
+abbrev pub is_silent : Status → Bool
+is_silent Words = true
+is_silent (ScriptRefused refusal) = true
+is_silent ReadFault = true
+is_silent TooLong = true
+is_silent Memory = true
+is_silent (TooWide weight) = true
+is_silent (ModelRefused refusal) = true
+is_silent (RefutationRefused refusal) = true
+is_silent status = false
+
+-- A fact of the refusal of a script.
+abbrev pub IfScriptRefused : Status → (Refusal → Type 0) → Type 0
+IfScriptRefused (ScriptRefused refusal) P = P refusal
+IfScriptRefused status P = Unit {0}
+
+-- The statuses that `solve` has so far, and those of them that a file's bytes alone lead to.
+abbrev pub ComesFromBytes : Status → Type 0
+ComesFromBytes Sat = Unit {0}
+ComesFromBytes (ScriptRefused refusal) = Unit {0}
+ComesFromBytes WriteFault = Unit {0}
+ComesFromBytes Memory = Unit {0}
+ComesFromBytes status = ⊥
+
+abbrev pub Comes : Status → Type 0
+Comes ReadFault = Unit {0}
+Comes TooLong = Unit {0}
+Comes status = ComesFromBytes status
+
+abbrev pub IsOneOfAll : Status → Type 0
+IsOneOfAll Words = Unit {0}
+IsOneOfAll status = Comes status
+
+-- The names have these contents, where that is told.
+abbrev pub HaveAll : Files → List (List ℕ) → List (List ℕ) → Type 0
+HaveAll files [] [] = Unit {0}
+HaveAll files (name ∷ names) (bytes ∷ contents) = Has files name bytes × HaveAll files names contents
+HaveAll files [] (bytes ∷ contents) = ⊥
+HaveAll files (name ∷ names) [] = ⊥
+
+-- The words' command has an answer with this status, and its text was taken as said.
+abbrev pub Answers : List (List ℕ) → Files → Status → (List ℕ → Type 0) → Type 0
+Answers words files status Taken =
+    (command : Command) × (asked_for words ≡ Some command) × (contents : List (List ℕ)) × HaveAll files (files_of command) contents
+    × (text : List ℕ) × IsAnswer command contents status text × Taken text
+
+-- The file has an answer with this status, and its text was taken as said.
+abbrev pub Solves : Files → List ℕ → Status → (List ℕ → Type 0) → Type 0
+Solves files file status Taken = (bytes : List ℕ) × Has files file bytes × (text : List ℕ) × IsSolution bytes status text × Taken text
+
+-- The whole text was taken, or a proper front of it.
+abbrev pub TookAll : Option (List ℕ) → Option (List ℕ) → List ℕ → Type 0
+TookAll before now text = now ≡ with_more before text
+
+abbrev pub TookFront : Option (List ℕ) → Option (List ℕ) → List ℕ → Type 0
+TookFront before now text = (n : ℕ) × (n < length text) × (now ≡ with_more before (take n text))
+
+-- The words' command has an answer with some status, of which a proper front was taken.
+abbrev pub AnswersFront : List (List ℕ) → Files → Option (List ℕ) → Option (List ℕ) → Type 0
+AnswersFront words files before now = (status : Status) × Answers words files status (TookFront before now)
+
+-- The file that the words ask to be solved is told, and has such bytes.
+abbrev pub OfTold : List (List ℕ) → Files → (List ℕ → Type 0) → Type 0
+OfTold words files Such = (file : List ℕ) × (asked_for words ≡ Some (Solve None file)) × Tells files file Such
+
+-- The file that the words ask to be solved has such bytes, where that is told.
+abbrev pub Of : List (List ℕ) → Files → (List ℕ → Type 0) → Type 0
+Of words files Such = (file bytes : List ℕ) × (asked_for words ≡ Some (Solve None file)) × Has files file bytes × Such bytes
+
+-- The shelf tells that the file has such bytes.
+abbrev pub GivesFile : Files → List ℕ → (List ℕ → Type 0) → Type 0
+GivesFile None name Such = ⊥
+GivesFile (Some file) name Such = (bytes : List ℕ) × (file name ≡ Some bytes) × Such bytes
+
+-- The shelf tells that the file of the words has such bytes, and no more than a file may have; or more.
+abbrev pub Gives : List (List ℕ) → Files → (List ℕ → Type 0) → Type 0
+Gives words files Such =
+    (file : List ℕ) × (asked_for words ≡ Some (Solve None file)) × GivesFile files file (λ bytes. (length bytes ≤ file_limit) × Such bytes)
+
+abbrev pub GivesLong : List (List ℕ) → Files → Type 0
+GivesLong words files =
+    (file : List ℕ) × (asked_for words ≡ Some (Solve None file)) × GivesFile files file (λ bytes. file_limit < length bytes)
+
+-- The bytes have a meaning.
+abbrev pub IsMeant : List ℕ → Type 0
+IsMeant bytes = (script : Script) × Means bytes script
+
+-- The names of the words' files.
+abbrev pub names_of : Option Command → List (List ℕ)
+names_of None = []
+names_of (Some command) = files_of command
+
+-- The name was asked once at most.
+abbrev pub AsksOne : Option (List (List ℕ)) → Option (List (List ℕ)) → List ℕ → Type 0
+AsksOne before now name = (now ≡ before) ⊎ (now ≡ with_more before (name ∷ []))
+
+-- A front of the names was asked, each once and in order.
+abbrev pub AskedFront : Option (List (List ℕ)) → Option (List (List ℕ)) → List (List ℕ) → Type 0
+AskedFront before now names = (n : ℕ) × (n ≤ length names) × (now ≡ with_more before (take n names))
+
+-- How the counter rises: by the ground decisions behind the answer, of which a script without assertions needs
+-- one. Want of memory may come before or after it.
+abbrev pub Counts : Status → ℕ → ℕ → Type 0
+Counts Sat before now = now ≡ before + 1
+Counts WriteFault before now = now ≡ before + 1
+Counts Memory before now = (before ≤ now) × (now ≤ before + 1)
+Counts status before now = now ≡ before
+
+-- The same for a text that is still to be written.
+abbrev pub CountsReading : {T : Type 0} → Result T ReadError → ℕ → ℕ → Type 0
+CountsReading (Ok text) before now = now ≡ before + 1
+CountsReading (Err error.Memory) before now = (before ≤ now) × (now ≤ before + 1)
+CountsReading (Err (error.Refused refusal)) before now = now ≡ before
+
+-- The status, or want of memory, or a fault that was counted.
+abbrev pub IsOneOf : Status → Status → ℕ → ℕ → ℕ → ℕ → Type 0
+IsOneOf status wanted shelf_before shelf_now out_before out_now =
+    (status ≡ wanted) ⊎ ((status ≡ Memory) ⊎ (Rose shelf_before shelf_now ⊎ Rose out_before out_now))

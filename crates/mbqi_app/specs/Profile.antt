@@ -1,0 +1,184 @@
+use Rattle.std.specs.Prelude.{ℕ, ◌==◌, ◌&&◌, ◌||◌, Bool, true, false, not, List, [], ◌∷◌, ◌++◌, map, Option, None, Some, codes, if◌then◌else◌}
+use Rattle.std.specs.List.{list_all, list_any}
+use Rattle.std.specs.Option.{option_and_then}
+use Rattle.std.specs.Char.{is_ascii_digit}
+use Rattle.std.specs.Str.{bytes_eq}
+use Rattle.sexpr_text.specs.Bytes.{is_symbol_byte}
+use Rattle.sexpr_text.specs.declared.tree.Sexpr.{Sexpr}
+use Rattle.sexpr_text.specs.declared.tree.Sexpr.TheOpen.{Sexpr-F}
+use Rattle.sexpr_text.specs.declared.tree.Sexpr.TheViews.{out-Sexpr}
+use Rattle.mbqi_app.specs.declared.names.TheConstants.{RESERVED_WORDS}
+use Rattle.mbqi_terms.specs.declared.script.Function.{Function}
+use Rattle.mbqi_terms.specs.declared.script.Script.{Script}
+use Rattle.mbqi_terms.specs.declared.sort.Sort.{Sort}
+use Rattle.mbqi_terms.specs.declared.sort.Sort.TheVariants as sort
+
+-- The first profile of scripts (this project's own, inside SMT-LIB 2.6): one sort, its constants, and predicates
+-- over it.
+
+-- A symbol that may be written without bars.
+abbrev pub is_simple : List ℕ → Bool
+is_simple [] = false
+is_simple (b ∷ bs) = not (is_ascii_digit b) && list_all is_symbol_byte (b ∷ bs)
+
+-- Names that begin with `@` or `.` belong to solvers (SMT-LIB 2.6, section 3.1).
+abbrev pub is_for_solvers : List ℕ → Bool
+is_for_solvers [] = false
+is_for_solvers (b ∷ bs) = b == 64 || b == 46
+
+-- One of the words that no declaration may name.
+abbrev pub is_reserved : List ℕ → Bool
+is_reserved word = list_any (λ reserved. bytes_eq word reserved.now) RESERVED_WORDS
+
+-- A word that a declaration may name.
+abbrev pub is_name : List ℕ → Bool
+is_name word = is_simple word && not (is_for_solvers word) && not (is_reserved word)
+
+-- The word of a tree that is a symbol, and the parts of one that is a list.
+abbrev pub word_in : Sexpr-F Sexpr → Option (List ℕ)
+word_in (Sexpr-F.Symbol word) = Some word
+word_in (Sexpr-F.Numeral text) = None
+word_in (Sexpr-F.Decimal text) = None
+word_in (Sexpr-F.Hex text) = None
+word_in (Sexpr-F.Binary text) = None
+word_in (Sexpr-F.Str text) = None
+word_in (Sexpr-F.Keyword text) = None
+word_in (Sexpr-F.List parts) = None
+
+abbrev pub word_of : Sexpr → Option (List ℕ)
+word_of tree = word_in (out-Sexpr tree)
+
+abbrev pub parts_in : Sexpr-F Sexpr → Option (List Sexpr)
+parts_in (Sexpr-F.List parts) = Some parts
+parts_in (Sexpr-F.Symbol word) = None
+parts_in (Sexpr-F.Numeral text) = None
+parts_in (Sexpr-F.Decimal text) = None
+parts_in (Sexpr-F.Hex text) = None
+parts_in (Sexpr-F.Binary text) = None
+parts_in (Sexpr-F.Str text) = None
+parts_in (Sexpr-F.Keyword text) = None
+
+abbrev pub parts_of : Sexpr → Option (List Sexpr)
+parts_of tree = parts_in (out-Sexpr tree)
+
+abbrev pub is_zero_in : Sexpr-F Sexpr → Bool
+is_zero_in (Sexpr-F.Numeral text) = bytes_eq text (codes "0")
+is_zero_in (Sexpr-F.Symbol word) = false
+is_zero_in (Sexpr-F.Decimal text) = false
+is_zero_in (Sexpr-F.Hex text) = false
+is_zero_in (Sexpr-F.Binary text) = false
+is_zero_in (Sexpr-F.Str text) = false
+is_zero_in (Sexpr-F.Keyword text) = false
+is_zero_in (Sexpr-F.List parts) = false
+
+-- The numeral 0.
+abbrev pub is_zero : Sexpr → Bool
+is_zero tree = is_zero_in (out-Sexpr tree)
+
+-- A tree that is this symbol.
+abbrev pub is_word : List ℕ → Option (List ℕ) → Bool
+is_word word None = false
+is_word word (Some other) = bytes_eq other word
+
+abbrev pub is_symbol : List ℕ → Sexpr → Bool
+is_symbol word tree = is_word word (word_of tree)
+
+-- Whether the script has declared the name.
+abbrev pub is_declared : Script → List ℕ → Bool
+is_declared script word =
+    list_any (bytes_eq word) script.sorts || list_any (λ function. bytes_eq word function.name) script.functions
+
+-- The name that a declaration adds: a word that may be declared and isn't yet.
+abbrev pub if_new : Script → List ℕ → Option (List ℕ)
+if_new script word = if is_name word && not (is_declared script word) then Some word else None
+
+unfoldable pub new_name : Script → Sexpr → Option (List ℕ)
+new_name script tree = option_and_then (if_new script) (word_of tree)
+
+-- A tree that names the script's sort.
+abbrev pub names_sort : List (List ℕ) → Sexpr → Bool
+names_sort [] tree = false
+names_sort (name ∷ names) tree = is_symbol name tree
+
+abbrev pub with_function : Script → Function → Script
+with_function script function = record script { functions = script.functions ++ function ∷ [] }
+
+-- The one sort has the number 0.
+abbrev pub the_sort : Sort
+the_sort = sort.Elem 0
+
+abbrev pub constant : List ℕ → Function
+constant name = record { name = name; args = []; result = the_sort }
+
+abbrev pub predicate : List ℕ → List Sexpr → Function
+predicate name args = record { name = name; args = map (λ arg. the_sort) args; result = sort.Truth }
+
+abbrev pub is_empty : {A : Type 0} → List A → Bool
+is_empty [] = true
+is_empty (x ∷ xs) = false
+
+-- `(declare-sort s 0)`, before everything else.
+abbrev pub with_sort : Script → List Sexpr → Option Script
+with_sort script (name ∷ arity ∷ []) =
+    if is_empty script.sorts && is_empty script.functions && is_zero arity
+    then option_and_then (λ word. Some (record script { sorts = script.sorts ++ word ∷ [] })) (new_name script name)
+    else None
+with_sort script parts = None
+
+-- `(declare-const c s)`.
+abbrev pub with_constant : Script → List Sexpr → Option Script
+with_constant script (name ∷ sort ∷ []) =
+    if names_sort script.sorts sort
+    then option_and_then (λ word. Some (with_function script (constant word))) (new_name script name)
+    else None
+with_constant script parts = None
+
+-- The arguments of a predicate: the sort, once or more.
+abbrev pub are_sorts : List (List ℕ) → List Sexpr → Bool
+are_sorts sorts args = not (is_empty args) && list_all (names_sort sorts) args
+
+abbrev pub with_arguments : Script → Sexpr → List Sexpr → Option Script
+with_arguments script name args =
+    if are_sorts script.sorts args
+    then option_and_then (λ word. Some (with_function script (predicate word args))) (new_name script name)
+    else None
+
+-- `(declare-fun p (s ...) Bool)`.
+abbrev pub with_predicate : Script → List Sexpr → Option Script
+with_predicate script (name ∷ args ∷ result ∷ []) =
+    if is_symbol (codes "Bool") result then option_and_then (with_arguments script name) (parts_of args) else None
+with_predicate script parts = None
+
+-- `(check-sat)`.
+abbrev pub with_question : Script → List Sexpr → Option Script
+with_question script [] = Some (record script { asks = true })
+with_question script (part ∷ parts) = None
+
+-- A command by its first word.
+abbrev pub by_word : Script → Sexpr → List Sexpr → Option Script
+by_word script head parts =
+    if is_symbol (codes "declare-const") head then with_constant script parts
+    else (if is_symbol (codes "declare-fun") head then with_predicate script parts
+    else (if is_symbol (codes "declare-sort") head then with_sort script parts
+    else (if is_symbol (codes "check-sat") head then with_question script parts
+    else None)))
+
+abbrev pub by_parts : Script → List Sexpr → Option Script
+by_parts script [] = None
+by_parts script (head ∷ parts) = by_word script head parts
+
+-- The script after one more command. Nothing comes behind `(check-sat)`.
+unfoldable pub after_command : Script → Sexpr → Option Script
+after_command script tree = if script.asks then None else option_and_then (by_parts script) (parts_of tree)
+
+-- The script after these commands.
+abbrev pub after_commands : Script → List Sexpr → Option Script
+after_commands script [] = Some script
+after_commands script (tree ∷ trees) = option_and_then (λ next. after_commands next trees) (after_command script tree)
+
+abbrev pub empty_script : Script
+empty_script = record { sorts = []; functions = []; assertions = []; asks = false }
+
+-- The script of a text's trees, where they are in the first profile.
+abbrev pub meaning_of : List Sexpr → Option Script
+meaning_of trees = after_commands empty_script trees

@@ -1,0 +1,178 @@
+//! The text of a shown model.
+
+ghost use Rattle.std.specs.Prelude.{◌≡◌, ◌++◌, OnOk};
+ghost use Rattle.mbqi_app.specs.ModelText.{value_text, values_text, number_text, spaced_rest, list_text, row_text, table_text, tables_text, sort_text, sorts_text, model_text};
+ghost use Rattle.std.specs.Prelude.{map};
+
+use function_model::{FunctionModel, Row, Table};
+use itoa::Buffer;
+use mbqi_terms::{Function, Script, Values};
+use mbqi_values::{Text, Value};
+use std::alloc::AllocError;
+
+/// Appends the lines of a shown model for its script, whose names are simple symbols.
+#[tactic(auto, unfolding(crate::specs::ModelText::model_text))]
+pub fn write_model(
+    script: &Script,
+    model: &FunctionModel,
+    into: &mut Vec<u8>,
+) -> Result<(), AllocError>
+    ensures { OnOk result (into.new.items ≡ into.old.items ++ model_text script.now model.now) }
+{
+    into.extend_from_slice(b"sat\n(model 1\n")?;
+    write_sorts(script.sorts.as_slice(), model.sizes.as_slice(), into)?;
+    write_tables(script.functions.as_slice(), model.tables.as_slice(), into)?;
+    into.extend_from_slice(b")\n")?;
+    Ok(())
+}
+
+#[tactic(auto, using(crate::proofs::TextLines::sorts_text_end, crate::proofs::TextLines::sorts_text_next))]
+fn write_sorts(names: &[Text], sizes: &[u64], into: &mut Vec<u8>) -> Result<(), AllocError>
+    ensures { OnOk result (into.new.items ≡ into.old.items ++ sorts_text names.now sizes.now) }
+{
+    for at in 0..names.len().min(sizes.len()) {
+        write_sort(names[at].as_slice(), sizes[at], into)?;
+    }
+    Ok(())
+}
+
+fn write_sort(name: &[u8], size: u64, into: &mut Vec<u8>) -> Result<(), AllocError>
+    ensures { OnOk result (into.new.items ≡ into.old.items ++ sort_text name.now size) }
+{
+    into.extend_from_slice(b"(sort ")?;
+    into.extend_from_slice(name)?;
+    into.extend_from_slice(b" ")?;
+    into.extend_from_slice(Buffer::new().format(size).as_bytes())?;
+    into.extend_from_slice(b")\n")
+}
+
+#[tactic(auto, using(crate::proofs::TextLines::tables_text_end, crate::proofs::TextLines::tables_text_next))]
+fn write_tables(
+    functions: &[Function],
+    tables: &[Table],
+    into: &mut Vec<u8>,
+) -> Result<(), AllocError>
+    ensures { OnOk result (into.new.items ≡ into.old.items ++ tables_text functions.now tables.now) }
+{
+    for at in 0..functions.len().min(tables.len()) {
+        write_table(&functions[at], &tables[at], into)?;
+    }
+    Ok(())
+}
+
+fn write_table(function: &Function, table: &Table, into: &mut Vec<u8>) -> Result<(), AllocError>
+    ensures { OnOk result (into.new.items ≡ into.old.items ++ table_text function.now table.now) }
+{
+    into.extend_from_slice(b"(fun ")?;
+    into.extend_from_slice(function.name.as_slice())?;
+    into.extend_from_slice(b" ")?;
+    write_knots(table.knots.as_slice(), into)?;
+    into.extend_from_slice(b" ")?;
+    write_rows(table.rows.as_slice(), into)?;
+    into.extend_from_slice(b" ")?;
+    write_value(table.default, into)?;
+    into.extend_from_slice(b")\n")
+}
+
+fn write_knots(knots: &[Values], into: &mut Vec<u8>) -> Result<(), AllocError>
+    ensures { OnOk result (into.new.items ≡ into.old.items ++ list_text (map values_text knots.now)) }
+{
+    into.extend_from_slice(b"(")?;
+    if let [first, rest @ ..] = knots {
+        write_values(first.as_slice(), into)?;
+        write_more_knots(rest, into)?;
+    }
+    into.extend_from_slice(b")")
+}
+
+/// The knots of further arguments, each behind a blank.
+fn write_more_knots(knots: &[Values], into: &mut Vec<u8>) -> Result<(), AllocError>
+    ensures { OnOk result (into.new.items ≡ into.old.items ++ spaced_rest (map values_text knots.now)) }
+{
+    for values in knots {
+        into.extend_from_slice(b" ")?;
+        write_values(values.as_slice(), into)?;
+    }
+    Ok(())
+}
+
+fn write_rows(rows: &[Row], into: &mut Vec<u8>) -> Result<(), AllocError>
+    ensures { OnOk result (into.new.items ≡ into.old.items ++ list_text (map row_text rows.now)) }
+{
+    into.extend_from_slice(b"(")?;
+    if let [first, rest @ ..] = rows {
+        write_row(first, into)?;
+        write_more_rows(rest, into)?;
+    }
+    into.extend_from_slice(b")")
+}
+
+/// Further rows, each behind a blank.
+fn write_more_rows(rows: &[Row], into: &mut Vec<u8>) -> Result<(), AllocError>
+    ensures { OnOk result (into.new.items ≡ into.old.items ++ spaced_rest (map row_text rows.now)) }
+{
+    for row in rows {
+        into.extend_from_slice(b" ")?;
+        write_row(row, into)?;
+    }
+    Ok(())
+}
+
+fn write_row(row: &Row, into: &mut Vec<u8>) -> Result<(), AllocError>
+    ensures { OnOk result (into.new.items ≡ into.old.items ++ row_text row.now) }
+{
+    into.extend_from_slice(b"(")?;
+    write_values(row.places.as_slice(), into)?;
+    into.extend_from_slice(b" ")?;
+    write_value(row.value, into)?;
+    into.extend_from_slice(b")")
+}
+
+fn write_values(values: &[Value], into: &mut Vec<u8>) -> Result<(), AllocError>
+    ensures { OnOk result (into.new.items ≡ into.old.items ++ values_text values.now) }
+{
+    into.extend_from_slice(b"(")?;
+    if let [first, rest @ ..] = values {
+        write_value(*first, into)?;
+        write_more_values(rest, into)?;
+    }
+    into.extend_from_slice(b")")
+}
+
+/// Further values, each behind a blank.
+fn write_more_values(values: &[Value], into: &mut Vec<u8>) -> Result<(), AllocError>
+    ensures { OnOk result (into.new.items ≡ into.old.items ++ spaced_rest (map value_text values.now)) }
+{
+    for value in values {
+        into.extend_from_slice(b" ")?;
+        write_value(*value, into)?;
+    }
+    Ok(())
+}
+
+fn write_value(value: Value, into: &mut Vec<u8>) -> Result<(), AllocError>
+    ensures { OnOk result (into.new.items ≡ into.old.items ++ value_text value) }
+{
+    match value {
+        Value::Num(number) => write_number(number, into),
+        Value::Elem(element) => {
+            into.extend_from_slice(b"@")?;
+            into.extend_from_slice(Buffer::new().format(element).as_bytes())
+        }
+        Value::Truth(true) => into.extend_from_slice(b"true"),
+        Value::Truth(false) => into.extend_from_slice(b"false"),
+    }
+}
+
+fn write_number(number: i128, into: &mut Vec<u8>) -> Result<(), AllocError>
+    ensures { OnOk result (into.new.items ≡ into.old.items ++ number_text number) }
+{
+    let mut buffer = Buffer::new();
+    let digits = buffer.format(number.unsigned_abs());
+    if number >= 0 {
+        return into.extend_from_slice(digits.as_bytes());
+    }
+    into.extend_from_slice(b"(- ")?;
+    into.extend_from_slice(digits.as_bytes())?;
+    into.extend_from_slice(b")")
+}

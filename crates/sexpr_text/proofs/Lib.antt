@@ -1,0 +1,11 @@
+pub mod ByteSearch
+pub mod Fronts
+pub mod Kept
+pub mod Legality
+pub mod ReadBack
+pub mod Readings
+pub mod Soundness
+pub mod Spelling
+pub mod Texts
+pub mod Turns
+pub mod Unique
