@@ -66,9 +66,9 @@ unfoldable mutual
   HoldsAt m true (Any' n fs) p = SomeHolds m true fs p
   HoldsAt m false (Any' n fs) p = EachHolds m false fs p
   HoldsAt m b (Iff' u (more_of-Formula f end_of-Formula) v (more_of-Formula g end_of-Formula)) p =
-    (HoldsAt m true f p × HoldsAt m b g p) ⊎ (HoldsAt m false f p × HoldsAt m (not b) g p)
+      (HoldsAt m true f p × HoldsAt m b g p) ⊎ (HoldsAt m false f p × HoldsAt m (not b) g p)
   HoldsAt m b (Choose' u (more_of-Formula c end_of-Formula) v (more_of-Formula f end_of-Formula) w (more_of-Formula g end_of-Formula)) p =
-    (HoldsAt m true c p × HoldsAt m b f p) ⊎ (HoldsAt m false c p × HoldsAt m b g p)
+      (HoldsAt m true c p × HoldsAt m b f p) ⊎ (HoldsAt m false c p × HoldsAt m b g p)
   HoldsAt m true (Forall' bs u (more_of-Formula f end_of-Formula)) p = ForAll m.sizes bs p (HoldsAt m true f)
   HoldsAt m false (Forall' bs u (more_of-Formula f end_of-Formula)) p = ForSome m.sizes bs p (HoldsAt m false f)
   HoldsAt m true (Exists' bs u (more_of-Formula f end_of-Formula)) p = ForSome m.sizes bs p (HoldsAt m true f)

@@ -14,12 +14,6 @@ use Rattle.function_model.specs.declared.model.TableName.TheVariants.{Declared, 
 abbrev pub is_same : Value → Value → Bool
 is_same v w = is_eq (rank_of v w)
 
-abbrev pub are_same : List Value → List Value → Bool
-are_same [] [] = true
-are_same (v ∷ vs) (w ∷ ws) = is_same v w && are_same vs ws
-are_same [] (w ∷ ws) = false
-are_same (v ∷ vs) [] = false
-
 -- The greatest of rising knots that isn't above the value, or `best` where there is none.
 abbrev pub greatest_up_to : Value → List Value → Value → Value
 greatest_up_to best [] v = best
@@ -34,20 +28,20 @@ projected (k ∷ ks) (Num n) = greatest_up_to k ks (Num n)
 projected (k ∷ ks) (Elem e) = if list_any (is_same (Elem e)) (k ∷ ks) then Elem e else k
 projected (k ∷ ks) (Truth t) = Truth t
 
--- Each argument at its knot.
-abbrev pub all_projected : List (List Value) → List Value → List Value
-all_projected (ks ∷ kss) (v ∷ vs) = projected ks v ∷ all_projected kss vs
-all_projected [] vs = []
-all_projected (ks ∷ kss) [] = []
+-- Whether a row's places are the arguments at their knots.
+abbrev pub is_at : List Value → List (List Value) → List Value → Bool
+is_at [] [] [] = true
+is_at (place ∷ places) (ks ∷ kss) (v ∷ vs) = is_same place (projected ks v) && is_at places kss vs
+is_at places kss vs = false
 
--- The value of the row at these places, or the default where there is none.
-abbrev pub value_at : List Row → List Value → Value → Value
-value_at [] places default = default
-value_at (row ∷ rows) places default = if are_same row.places places then row.value else value_at rows places default
+-- The value of the row at the arguments' knots, or the default where there is none.
+abbrev pub value_at : List Row → List (List Value) → List Value → Value → Value
+value_at [] knots args default = default
+value_at (row ∷ rows) knots args default = if is_at row.places knots args then row.value else value_at rows knots args default
 
 -- What a table gives for arguments.
 abbrev pub looked_up_in : Table → List Value → Value
-looked_up_in table args = value_at table.rows (all_projected table.knots args) table.default
+looked_up_in table args = value_at table.rows table.knots args table.default
 
 abbrev pub looked_up : Option Table → List Value → Value
 looked_up None args = Truth false

@@ -62,14 +62,17 @@ applied m op.Not args = Truth (not (list_any is_true args))
 abbrev pub array_meaning : FunctionModel → ArrayTerm-F ArrayMeaning (List Value → Value) Value → ArrayMeaning
 array_meaning m (ArrayTerm-F.Name f) = record {
   read = λ i. looked_up (table_where (is_declared f) m) (i ∷ []);
-  top = last_knot (table_where (is_declared f) m) }
+  top = last_knot (table_where (is_declared f) m);
+}
 array_meaning m (ArrayTerm-F.Store a i v) = record {
   read = λ j. if is_same i j then v else a.read j;
-  top = greater a.top (number_of i +ℤ pos 1) }
+  top = greater a.top (number_of i +ℤ pos 1);
+}
 array_meaning m (ArrayTerm-F.Const sort v) = record { read = λ j. v; top = pos 0 }
 array_meaning m (ArrayTerm-F.Map f parts) = record {
   read = λ j. applied m f (map (λ (a : ArrayMeaning). a.read j) parts);
-  top = fold (λ t (a : ArrayMeaning). greater t a.top) (pos 0) parts }
+  top = fold (λ t (a : ArrayMeaning). greater t a.top) (pos 0) parts;
+}
 
 -- A symbol is its table.
 abbrev pub symbol_meaning : FunctionModel → Symbol-F ArrayMeaning (List Value → Value) Value → List Value → Value

@@ -5,6 +5,11 @@
 
 #![tactic(auto)]
 
+mod look_up;
 pub mod model;
 
+pub use look_up::projected;
 pub use model::{FunctionModel, Row, Rows, Table, TableName, Tables, ValueLists};
+
+#[cfg(test)]
+mod tests;

@@ -1,0 +1,72 @@
+use crate::{Row, Table, TableName, projected};
+use mbqi_values::{Sequence, Value};
+use std::alloc::{AllocError, Global};
+
+fn values<const N: usize>(alloc: Global, all: [Value; N]) -> Result<Sequence<Value>, AllocError> {
+    Ok(Sequence::from_slice(alloc, all.as_slice())?)
+}
+
+/// A table of one argument with two rows.
+fn two_rows(
+    alloc: Global,
+    knots: [Value; 2],
+    rows: [Value; 2],
+    default: Value,
+) -> Result<Table, AllocError> {
+    let mut all_knots = Sequence::new(alloc);
+    all_knots.push(values(alloc, knots)?)?;
+    let mut all_rows = Sequence::new(alloc);
+    all_rows.push(Row {
+        places: values(alloc, [knots[0]])?,
+        value: rows[0],
+    })?;
+    all_rows.push(Row {
+        places: values(alloc, [knots[1]])?,
+        value: rows[1],
+    })?;
+    Ok(Table {
+        name: TableName::Declared(0),
+        knots: all_knots,
+        rows: all_rows,
+        default,
+    })
+}
+
+#[test]
+fn step_function_goes_on_below_its_least_knot(rt: HostRuntime) -> Result<(), AllocError> {
+    let knots = [Value::Num(-1), Value::Num(0)];
+    let rows = [Value::Num(0), Value::Num(1)];
+    let table = two_rows(rt.alloc(), knots, rows, Value::Num(7))?;
+    for (at, value) in [(-5, 0), (-1, 0), (0, 1), (9, 1)] {
+        assert!(rt;
+            table.look_up(&[Value::Num(at)]) == Value::Num(value),
+            "at {at}"
+        );
+    }
+    Ok(())
+}
+
+#[test]
+fn element_that_is_no_knot_goes_to_the_first(rt: HostRuntime) -> Result<(), AllocError> {
+    let knots = [Value::Elem(1), Value::Elem(3)];
+    let rows = [Value::Truth(true), Value::Truth(false)];
+    let table = two_rows(rt.alloc(), knots, rows, Value::Truth(false))?;
+    for (element, truth) in [(0, true), (1, true), (2, true), (3, false), (9, true)] {
+        let value = table.look_up(&[Value::Elem(element)]);
+        assert!(rt; value == Value::Truth(truth), "at {element}");
+    }
+    Ok(())
+}
+
+#[test]
+fn default_where_no_row_is(rt: HostRuntime) -> Result<(), AllocError> {
+    let table = Table {
+        name: TableName::Declared(0),
+        knots: Sequence::new(rt.alloc()),
+        rows: Sequence::new(rt.alloc()),
+        default: Value::Elem(2),
+    };
+    assert!(rt; table.look_up(&[]) == Value::Elem(2));
+    assert!(rt; projected(&[], Value::Num(4)) == Value::Num(4));
+    Ok(())
+}
