@@ -1,5 +1,5 @@
 -- Places of another number than knots or arguments aren't theirs.
-use Rattle.std.proofs.Common.{◌≡◌, ℕ, suc, Bool, true, false, ◌&&◌, List, [], ◌∷◌, length, refl, ap}
+use Rattle.std.proofs.Common.{◌≡◌, suc, Bool, true, false, ◌&&◌, List, [], ◌∷◌, length, refl, ap}
 use Rattle.mbqi_values.specs.declared.value.Value.{Value}
 use Rattle.function_model.specs.Lookup.{is_at, is_same, projected}
 

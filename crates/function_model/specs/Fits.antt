@@ -10,14 +10,11 @@ use Rattle.mbqi_terms.specs.declared.script.Function.{Function}
 use Rattle.mbqi_terms.specs.declared.script.Script.{Script}
 use Rattle.mbqi_terms.specs.declared.sort.Sort.{Sort}
 use Rattle.mbqi_terms.specs.declared.sort.Sort.TheVariants as sort
-use Rattle.mbqi_terms.specs.declared.sort.Plain.{Plain}
-use Rattle.mbqi_terms.specs.declared.sort.Plain.TheVariants as plain
 use Rattle.function_model.specs.declared.model.FunctionModel.{FunctionModel}
 use Rattle.function_model.specs.declared.model.Row.{Row}
 use Rattle.function_model.specs.declared.model.Table.{Table}
-use Rattle.function_model.specs.declared.model.TableName.{TableName}
 use Rattle.function_model.specs.declared.model.TableName.TheVariants.{Declared}
-use Rattle.function_model.specs.Holds.{IsOf}
+use Rattle.function_model.specs.Holds.{IsOf, plain_sort}
 
 -- A number is absolutely below 2 ^ 124; other values are as small as their sort.
 abbrev pub IsSmall : Value → Type 0
@@ -81,12 +78,7 @@ abbrev pub AreRows : List ℕ → List (List Value) → Sort → List Row → Ty
 AreRows sizes knots s [] = Unit {0}
 AreRows sizes knots s (row ∷ rows) = IsRow sizes knots s row × RowsRiseFrom sizes knots s row rows
 
--- The sort of a table's values: an array constant is a table of its index.
-abbrev pub plain_sort : Plain → Sort
-plain_sort plain.Truth = sort.Truth
-plain_sort plain.Int = sort.Int
-plain_sort (plain.Elem s) = sort.Elem s
-
+-- The sorts of a table: an array constant is a table of its index.
 abbrev pub places_of : List Sort → Sort → List Sort
 places_of args (sort.Array i e) = plain_sort i ∷ []
 places_of args sort.Truth = args

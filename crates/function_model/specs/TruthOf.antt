@@ -1,4 +1,4 @@
-use Rattle.std.specs.Prelude.{Bool, true, false, not, if◌then◌else◌}
+use Rattle.std.specs.Prelude.{Bool, not, if◌then◌else◌}
 use Rattle.std.specs.List.{list_all, list_any}
 use Rattle.std.specs.Ordering.{is_le}
 use Rattle.mbqi_values.specs.Value.{rank_of}

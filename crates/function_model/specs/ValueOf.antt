@@ -1,4 +1,4 @@
-use Rattle.std.specs.Prelude.{ℕ, ℤ, pos, ◌+ℤ◌, Bool, true, false, not, ◌&&◌, ◌||◌, List, [], ◌∷◌, map, Option, None, Some, if◌then◌else◌}
+use Rattle.std.specs.Prelude.{ℕ, ℤ, pos, ◌+ℤ◌, Bool, false, not, List, [], ◌∷◌, map, Option, None, Some, if◌then◌else◌}
 use Rattle.std.specs.List.{list_all, list_any, fold}
 use Rattle.std.specs.Ordering.{is_le, int_cmp}
 use Rattle.mbqi_values.specs.declared.value.Value.{Value}
@@ -57,6 +57,11 @@ applied m op.And args = Truth (list_all is_true args)
 applied m op.Or args = Truth (list_any is_true args)
 applied m op.Not args = Truth (not (list_any is_true args))
 
+-- The greatest top of the parts of a map.
+abbrev pub top_of : List ArrayMeaning → ℤ
+top_of [] = pos 0
+top_of (a ∷ parts) = fold (λ t (b : ArrayMeaning). greater t b.top) a.top parts
+
 -- An array is read pointwise (SMT-LIB 2.6, theory ArraysEx; constant arrays and maps after de Moura and Bjørner
 -- 2009). Its top is the last knot of a name, and one past each stored index (this project's own).
 abbrev pub array_meaning : FunctionModel → ArrayTerm-F ArrayMeaning (List Value → Value) Value → ArrayMeaning
@@ -71,7 +76,7 @@ array_meaning m (ArrayTerm-F.Store a i v) = record {
 array_meaning m (ArrayTerm-F.Const sort v) = record { read = λ j. v; top = pos 0 }
 array_meaning m (ArrayTerm-F.Map f parts) = record {
   read = λ j. applied m f (map (λ (a : ArrayMeaning). a.read j) parts);
-  top = fold (λ t (a : ArrayMeaning). greater t a.top) (pos 0) parts;
+  top = top_of parts;
 }
 
 -- A symbol is its table.

@@ -107,4 +107,4 @@ element_model_fits script sizes tables is s t =
 -- where nothing is asserted, each assertion holds
 pub nothing_asserted : (script : Script) (model : FunctionModel) → IsElementary script → Holds model script
 nothing_asserted script model is =
-    let P : List Assertion → Type 0 = λ all. AssertionsHold model all in subst P (sym is.assertions) tt
+    let P : List Assertion → Type 0 = λ all. AssertionsHold script.functions model all in subst P (sym is.assertions) tt
