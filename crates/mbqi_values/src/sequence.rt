@@ -53,12 +53,14 @@ impl<T> Sequence<T> {
         }
     }
 
+    /// The list of the vector's items, which takes no memory.
     pub fn from_vec(items: Vec<T>) -> Sequence<T>
         ensures { result ≡ items.items }
     {
         Sequence { items }
     }
 
+    /// The vector of the items, which takes no memory.
     pub fn into_vec(self) -> Vec<T>
         ensures { result.items ≡ self }
     {
@@ -66,24 +68,28 @@ impl<T> Sequence<T> {
         items
     }
 
+    /// The items.
     pub fn as_slice(&self) -> &[T]
         ensures { result.now ≡ self.now }
     {
         self.items.as_slice()
     }
 
+    /// How many items there are.
     pub fn len(&self) -> usize
         ensures { result ≡ length self.now }
     {
         self.items.len()
     }
 
+    /// Whether there is no item.
     pub fn is_empty(&self) -> bool
         ensures { IsTrue result ↔ (self.now ≡ []) }
     {
         self.items.is_empty()
     }
 
+    /// The item at a place from 0, or `None` behind the last one.
     pub fn get(&self, at: usize) -> Option<&T>
         ensures value { option_copied result ≡ slice_get self.now at }
         ensures within { OnSome result (at < length self.now) }
@@ -91,6 +97,7 @@ impl<T> Sequence<T> {
         self.items.get(at)
     }
 
+    /// The items in order.
     pub fn iter(&self) -> slice::Iter<'_, T>
         ensures { iter_rest result ≡ self.now }
     {
@@ -110,6 +117,7 @@ impl<T: Drop> Sequence<T> {
 }
 
 impl<T: Copy> Sequence<T> {
+    /// A copy of the items. The one error is want of memory.
     pub fn from_slice(alloc: Global, items: &[T]) -> Result<Sequence<T>, AllocError>
         ensures { IfOk result (λ s. s ≡ items.now) }
     {
