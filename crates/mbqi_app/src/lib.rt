@@ -14,6 +14,8 @@ mod profile;
 mod program;
 mod solve;
 mod tell;
+#[cfg(test)]
+mod tests;
 mod tree;
 
 pub use program::run;

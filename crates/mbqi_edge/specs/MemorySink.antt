@@ -17,9 +17,12 @@ room_of sink piece = min (min sink.most (sink.capacity - length sink.taken)) (le
 
 -- The next call fails: its number is listed, or the sink is full and there is something to take.
 abbrev pub FailsAt : SinkState → List ℕ → Type 0
-FailsAt sink piece = Contains sink.failing sink.calls ⊎ ((0 < length piece) × (length sink.taken ≡ sink.capacity))
+FailsAt sink piece =
+    Contains sink.failing sink.calls ⊎ ((0 < length piece) × (length sink.taken ≡ sink.capacity))
 
 -- The sink after a call: the call is counted, and so is a fault.
 abbrev pub sink_after : {E : Type 0} → Result ℕ E → SinkState → List ℕ → SinkState
-sink_after (Ok n) sink piece = record sink { taken = sink.taken ++ take n piece; calls = counted sink.calls }
-sink_after (Err e) sink piece = record sink { calls = counted sink.calls; faults = counted sink.faults }
+sink_after (Ok n) sink piece =
+    record sink { taken = sink.taken ++ take n piece; calls = counted sink.calls }
+sink_after (Err e) sink piece =
+    record sink { calls = counted sink.calls; faults = counted sink.faults }

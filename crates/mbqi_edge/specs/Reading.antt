@@ -14,8 +14,11 @@ TakesAtMost before now most = (bytes : List ℕ) × Consumes before now bytes ×
 
 -- That many bytes were taken from the reader and stand now at the end.
 abbrev pub Adds : Option (List ℕ) → Option (List ℕ) → ℕ → List ℕ → List ℕ → Type 0
-Adds before now count old new = (bytes : List ℕ) × Consumes before now bytes × (length bytes ≡ count) × (new ≡ old ++ bytes)
+Adds before now count old new =
+    (bytes : List ℕ) × Consumes before now bytes × (length bytes ≡ count) × (new ≡ old ++ bytes)
 
 -- All bytes were taken from the reader, no more than the limit, and stand now at the end.
 abbrev pub AddsAll : Option (List ℕ) → Option (List ℕ) → ℕ → List ℕ → List ℕ → Type 0
-AddsAll before now limit old new = (bytes : List ℕ) × Consumes before now bytes × IsAtEnd now × (length bytes ≤ limit) × (new ≡ old ++ bytes)
+AddsAll before now limit old new =
+    (bytes : List ℕ) × Consumes before now bytes × IsAtEnd now
+    × (length bytes ≤ limit) × (new ≡ old ++ bytes)

@@ -1,5 +1,7 @@
-ghost use Rattle.std.specs.Prelude.{◌≡◌, ◌≤◌, ◌<◌, ◌+◌, None, length, take, IfOk, OnOk, OnErr, IsErrOf};
+ghost use Rattle.std.specs.Prelude.{◌≡◌, ◌≤◌, ◌<◌, ◌+◌, ◌++◌, ℕ, List, None, length, take, IfOk, OnOk, OnErr, IsErrOf};
 ghost use Rattle.std.specs.Io.KnownBytes.{IsAtEnd};
+ghost use Rattle.mbqi_edge.specs.Faults.{Rose};
+ghost use Rattle.mbqi_edge.specs.Files.{Has};
 ghost use Rattle.mbqi_edge.specs.Reading.{Adds, AddsAll, TakesCount, TakesAtMost};
 
 use crate::{FetchFault, Shelf};
@@ -42,7 +44,19 @@ impl<'a, R: Files> Shelf for FolderShelf<'a, R> {
         name: &str,
         limit: usize,
         into: &mut Vec<u8>,
-    ) -> Result<(), FetchFault> {
+    ) -> Result<(), FetchFault>
+        // The bytes are all those that an opened file gave, and such a file gave too many.
+        ensures whole { OnOk result ((file end : R.File)
+            × AddsAll (R.File.remaining file) (R.File.remaining end) limit into.old.items into.new.items) }
+        ensures longer { IsErrOf result FetchFault.TooLong → (file end : R.File)
+            × TakesCount (R.File.remaining file) (R.File.remaining end) (limit + 1) }
+
+        ensures bytes { OnOk result ((bytes : List ℕ) × (into.new.items ≡ into.old.items ++ bytes)
+            × (length bytes ≤ limit) × Has None name.now bytes) }
+        ensures failed { IsErrOf result FetchFault.Failed → Rose self.old.faults self.new.faults }
+        ensures err { OnErr result (into.new.items ≡ into.old.items) }
+        ensures faults { self.old.faults ≤ self.new.faults }
+    {
         let fetched = match fs::open(self.rt, name) {
             Ok(mut file) => read_to_limit(&mut file, limit, into),
             Err(_) => Err(FetchFault::Failed),

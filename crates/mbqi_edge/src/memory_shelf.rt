@@ -118,7 +118,8 @@ impl Shelf for MemoryShelf {
         into: &mut Vec<u8>,
     ) -> Result<(), FetchFault>
         ensures bytes { OnOk result (Gives self.old name.now limit into.old.items into.new.items) }
-        ensures failed { IsErrOf result FetchFault.Failed → FailsAt self.old self.old.calls name.now }
+        ensures failed { IsErrOf result FetchFault.Failed
+            → FailsAt self.old self.old.calls name.now }
         ensures fails { FailsAt self.old self.old.calls name.now
             → IsErrOf result FetchFault.Failed ⊎ IsErrOf result FetchFault.Memory }
         ensures too_long { IsErrOf result FetchFault.TooLong → IsLonger self.old name.now limit }

@@ -36,7 +36,8 @@ impl Model for MemorySink {
       faults = s.faults;
     } };
 
-    ghost invariant = { λ s. (vec_len s.taken ≤ s.capacity) × (s.capacity ≤ vec_capacity s.taken) × (0 < s.most) };
+    ghost invariant = { λ s. (vec_len s.taken ≤ s.capacity) × (s.capacity ≤ vec_capacity s.taken)
+        × (0 < s.most) };
 }
 
 impl MemorySink {

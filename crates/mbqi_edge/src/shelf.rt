@@ -63,7 +63,8 @@ pub trait Shelf {
     ) -> Result<(), FetchFault>
         ensures bytes { OnOk result ((bytes : List ℕ) × (into.new.items ≡ into.old.items ++ bytes)
             × (length bytes ≤ limit) × Has (files self.old) name.now bytes) }
-        ensures failed { IsErrOf result FetchFault.Failed → Rose (faults self.old) (faults self.new) }
+        ensures failed { IsErrOf result FetchFault.Failed
+            → Rose (faults self.old) (faults self.new) }
         ensures too_long { IsErrOf result FetchFault.TooLong
             → Tells (files self.old) name.now (λ bytes. limit < length bytes) }
         ensures err { OnErr result (into.new.items ≡ into.old.items) }

@@ -23,7 +23,8 @@ pub trait Sink {
     fn put(&mut self, piece: &[u8]) -> Result<usize, SinkFailed>
         ensures within { IfOk result (λ n. n ≤ length piece.now) }
         ensures some { IfOk result (λ n. 0 < length piece.now → 0 < n) }
-        ensures taken { IfOk result (λ n. taken self.new ≡ with_more (taken self.old) (take n piece.now)) }
+        ensures taken { IfOk result (λ n.
+            taken self.new ≡ with_more (taken self.old) (take n piece.now)) }
         ensures cause { OnErr result (Rose (faults self.old) (faults self.new)) }
         ensures err { OnErr result (taken self.new ≡ taken self.old) }
         ensures faults { faults self.old ≤ faults self.new };

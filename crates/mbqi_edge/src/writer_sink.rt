@@ -30,7 +30,8 @@ impl<W: Write> Sink for WriterSink<W> {
     /// One call of `write`, and none for an empty piece. An error of the writer is a fault, and so is a writer
     /// that takes nothing.
     fn put(&mut self, piece: &[u8]) -> Result<usize, SinkFailed>
-        ensures writes { WriteAppends (W.contents self.old.writer) (W.contents self.new.writer) result piece.now }
+        ensures writes { WriteAppends (W.contents self.old.writer) (W.contents self.new.writer) result
+            piece.now }
         ensures empty { length piece.now ≡ 0 → (result ≡ Ok 0) × (self.new ≡ self.old) }
 
         ensures within { IfOk result (λ n. n ≤ length piece.now) }

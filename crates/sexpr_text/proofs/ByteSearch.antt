@@ -1,7 +1,7 @@
 -- What `memchr` finds, in the words of std's lists, and the content of a string from one quote to the next.
-use Rattle.std.proofs.Common.{◌≡◌, ℕ, zero, suc, ◌+◌, ◌-◌, ◌<◌, ◌≤◌, Bool, true, false, cond, not, List, [], ◌∷◌, ◌++◌, length, drop, take, get_or, eqb, Option, None, Some, unwrap_or, refl, sym, ap, ◌∙◌, arith, add-one, one-add, zero-add, drop-cons, get_or-drop}
-use Rattle.std.specs.List.{position_or_len, prefix_len, before_first, take_while}
-use Rattle.std.proofs.lemmas.List.Sums.{position_or_len_is, prefix_len-le-length, prefix_len_stops}
+use Rattle.std.proofs.Common.{◌≡◌, ℕ, suc, ◌+◌, ◌<◌, Bool, true, false, cond, not, List, [], ◌∷◌, length, drop, take, get_or, Option, None, Some, unwrap_or, refl, sym, ap, ◌∙◌, arith, add-one, one-add, drop-cons, get_or-drop}
+use Rattle.std.specs.List.{position_or_len}
+use Rattle.std.proofs.lemmas.List.Sums.{position_or_len_is}
 use Rattle.std.proofs.lemmas.List.Folds.{length-prefix_len}
 use Rattle.std.proofs.lemmas.List.{drop_all, drop-drop}
 use Rattle.memchr.specs.Find.{IsFirstByte, is_byte}

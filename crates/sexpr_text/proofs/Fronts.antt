@@ -1,22 +1,21 @@
 -- What stands at the front of an atom's text, where the bytes behind it don't belong to it.
-use Rattle.std.proofs.Common.{◌≡◌, ℕ, zero, suc, ◌+◌, ◌<◌, ◌≤◌, Bool, true, false, cond, not, ◌&&◌, List, [], ◌∷◌, ◌++◌, length, take, drop, get_or, eqb, ltb, Option, None, Some, codes, refl, sym, ap, ◌∙◌, subst, arith, one-add, append_assoc, length-append, length-drop, length-take-le, drop-cons, get_or-take, ◌||◌}
-use Rattle.std.specs.List.{list_all, position, position_or_len, prefix_len, before_first, flat_map}
+use Rattle.std.proofs.Common.{◌≡◌, ℕ, suc, ◌+◌, ◌<◌, Bool, true, false, cond, not, ◌&&◌, List, [], ◌∷◌, ◌++◌, length, take, drop, get_or, eqb, ltb, None, Some, refl, sym, ap, ◌∙◌, subst, arith, one-add, length-append, length-drop, length-take-le, drop-cons, get_or-take, ◌||◌}
+use Rattle.std.specs.List.{list_all, position, position_or_len, prefix_len}
 use Rattle.std.specs.Char.{is_ascii_digit, is_ascii_hexdigit}
 use Rattle.std.proofs.lemmas.Bool.Decides.{nat_tests}
 use Rattle.std.proofs.Math.Seq.{take-append_seam}
 use Rattle.std.proofs.lemmas.List.{take-append-drop}
-use Rattle.std.proofs.lemmas.List.Sums.{passes_at_first, prefix_len-le-length}
+use Rattle.std.proofs.lemmas.List.Sums.{passes_at_first}
 use Rattle.std.proofs.lemmas.List.Folds.{list_all-append, list_all_at}
-use Rattle.mbqi_values.specs.declared.fault.FaultKind.TheVariants.{BadByte, BadNumeral, OpenQuote, OpenString}
+use Rattle.mbqi_values.specs.declared.fault.FaultKind.TheVariants.{OpenQuote, OpenString}
 use Rattle.sexpr_text.specs.Bytes.{class_of, is_symbol_byte, is_content, is_quoted_content, is_quote, is_bar, word_of}
 use Rattle.mbqi_values.specs.declared.fault.FaultKind.{FaultKind}
 use Rattle.sexpr_text.specs.Front.{front_of, front_by, number_front, literal_front, radix_front, keyword_front, string_front, quoted_front, enclosed, enclosed_by, is_numeral, is_decimal, is_fraction, is_point, is_binary_digit, undoubled, content_len, atom}
-use Rattle.sexpr_text.specs.Text.{is_simple, doubled, symbol_text}
+use Rattle.sexpr_text.specs.Text.{is_simple, doubled}
 use Rattle.sexpr_text.specs.declared.class.Class.{Class}
 use Rattle.sexpr_text.specs.declared.class.Class.TheVariants as class
 use Rattle.sexpr_text.specs.declared.tree.Sexpr.{Sexpr}
 use Rattle.sexpr_text.specs.declared.tree.Sexpr.TheVariants as sexpr
-use Rattle.sexpr_text.specs.declared.token.Front.{Front}
 use Rattle.sexpr_text.proofs.ByteSearch.{other_first, quote_first, undoubled-cons}
 use Rattle.sexpr_text.proofs.Legality.{both, all_more}
 
@@ -171,7 +170,7 @@ pub string_is_front : (text rest : List ℕ) → list_all is_content text ≡ tr
 unfolding front_of class_of string_front
 string_is_front text rest all ends =
     ap (λ content. enclosed is_content OpenString (doubled text ++ 34 ∷ rest) content (sexpr.Str (undoubled content)))
-      (ap (λ n. take n (doubled text ++ 34 ∷ rest)) (doubled_len text rest ends) ∙ take-append_seam (doubled text) (34 ∷ rest))
+    (ap (λ n. take n (doubled text ++ 34 ∷ rest)) (doubled_len text rest ends) ∙ take-append_seam (doubled text) (34 ∷ rest))
     ∙ enclosed_is is_content OpenString (doubled text) 34 rest (sexpr.Str (undoubled (doubled text))) (doubled_all is_content text all)
     ∙ ap (λ content. atom (sexpr.Str content) (length (doubled text) + 2)) (undoubled-doubled text)
 
@@ -207,9 +206,9 @@ decimal_at text k lt point some digits more =
     let behind : list_all is_ascii_digit (drop (suc k) text) ≡ true = subst (λ d. list_all is_ascii_digit (drop 1 d) ≡ true) is more in
     record {
       symbols = ap (list_all is_symbol_byte) (sym (take-append-drop k text)) ∙ list_all-append is_symbol_byte (take k text) (drop k text)
-        ∙ ap (λ t. t && list_all is_symbol_byte (drop k text)) (all_more is_ascii_digit is_symbol_byte digit_is_symbol (take k text) digits)
-        ∙ ap (list_all is_symbol_byte) is ∙ ap (λ t. t && list_all is_symbol_byte (drop (suc k) text)) (point_is_symbol (get_or text k 0) point)
-        ∙ all_more is_ascii_digit is_symbol_byte digit_is_symbol (drop (suc k) text) behind;
+          ∙ ap (λ t. t && list_all is_symbol_byte (drop k text)) (all_more is_ascii_digit is_symbol_byte digit_is_symbol (take k text) digits)
+          ∙ ap (list_all is_symbol_byte) is ∙ ap (λ t. t && list_all is_symbol_byte (drop (suc k) text)) (point_is_symbol (get_or text k 0) point)
+          ∙ all_more is_ascii_digit is_symbol_byte digit_is_symbol (drop (suc k) text) behind;
       begins = ap is_ascii_digit (sym (get_or-take k text 0 0 (omega (arith, length-take-le k text (omega arith), is_below 0 (length (take k text)) some)))) ∙ first_some is_ascii_digit (take k text) some digits;
       no_numeral = no_numeral_with text (list_all_at is_ascii_digit text k 0 lt (point_no_digit (get_or text k 0) point));
     }

@@ -1,13 +1,12 @@
 -- The forms that are read have texts of their kinds, and brackets within the limit.
-use Rattle.std.proofs.Common.{◌≡◌, ℕ, suc, ◌+◌, ◌≤◌, Bool, true, false, cond, ◌&&◌, eqb, max, List, [], ◌∷◌, ◌++◌, map, length, Option, Result, Ok, Err, IfOk, refl, sym, ap, ◌∙◌, subst, arith}
+use Rattle.std.proofs.Common.{◌≡◌, ℕ, ◌+◌, ◌≤◌, true, false, cond, ◌&&◌, eqb, List, [], ◌∷◌, ◌++◌, map, length, Ok, Err, IfOk, refl, sym, ap, ◌∙◌, arith}
 use Rattle.std.specs.List.{list_all, AllByRecursion}
 use Rattle.std.proofs.lemmas.Bool.Decides.{nat_tests}
 use Rattle.mbqi_values.specs.declared.fault.FaultKind.TheVariants.{TooDeep}
 use Rattle.sexpr_text.specs.Depth.{depth_of, depth_layer, highest}
-use Rattle.sexpr_text.specs.Lexis.{Placed, Lexed, Ended, Broken, Next, open_limit}
+use Rattle.sexpr_text.specs.Lexis.{Lexed, Ended, Broken, Next, open_limit}
 use Rattle.sexpr_text.specs.Legal.{is_legal}
-use Rattle.sexpr_text.specs.Reading.{read_from, step_by, then_read, finished_in, put_in, opened, closed_in}
-use Rattle.sexpr_text.specs.declared.reader.Reader.{Reader}
+use Rattle.sexpr_text.specs.Reading.{read_from, step_by, then_read, put_in, opened, closed_in}
 use Rattle.sexpr_text.specs.declared.token.Token.{Token}
 use Rattle.sexpr_text.specs.declared.token.Token.TheVariants.{Open, Close, Atom}
 use Rattle.sexpr_text.specs.declared.tree.Form.{Form}
@@ -27,15 +26,15 @@ IsFlat tree = IsAtom tree → depth_of tree ≡ 0
 
 pub flat : (tree : Sexpr) → IsFlat tree
 flat = by_cases IsFlat (record {
-    numeral = λ text _. ap depth_of (sym (rolls-Numeral text)) ∙ fold-roll-Sexpr ℕ depth_layer (Sexpr-F.Numeral text);
-    decimal = λ text _. ap depth_of (sym (rolls-Decimal text)) ∙ fold-roll-Sexpr ℕ depth_layer (Sexpr-F.Decimal text);
-    hex = λ text _. ap depth_of (sym (rolls-Hex text)) ∙ fold-roll-Sexpr ℕ depth_layer (Sexpr-F.Hex text);
-    binary = λ text _. ap depth_of (sym (rolls-Binary text)) ∙ fold-roll-Sexpr ℕ depth_layer (Sexpr-F.Binary text);
-    str = λ text _. ap depth_of (sym (rolls-Str text)) ∙ fold-roll-Sexpr ℕ depth_layer (Sexpr-F.Str text);
-    symbol = λ text _. ap depth_of (sym (rolls-Symbol text)) ∙ fold-roll-Sexpr ℕ depth_layer (Sexpr-F.Symbol text);
-    keyword = λ text _. ap depth_of (sym (rolls-Keyword text)) ∙ fold-roll-Sexpr ℕ depth_layer (Sexpr-F.Keyword text);
-    list = λ parts _ atom. let e = sym (spelled-List parts) ∙ atom in cc;
-  })
+  numeral = λ text _. ap depth_of (sym (rolls-Numeral text)) ∙ fold-roll-Sexpr ℕ depth_layer (Sexpr-F.Numeral text);
+  decimal = λ text _. ap depth_of (sym (rolls-Decimal text)) ∙ fold-roll-Sexpr ℕ depth_layer (Sexpr-F.Decimal text);
+  hex = λ text _. ap depth_of (sym (rolls-Hex text)) ∙ fold-roll-Sexpr ℕ depth_layer (Sexpr-F.Hex text);
+  binary = λ text _. ap depth_of (sym (rolls-Binary text)) ∙ fold-roll-Sexpr ℕ depth_layer (Sexpr-F.Binary text);
+  str = λ text _. ap depth_of (sym (rolls-Str text)) ∙ fold-roll-Sexpr ℕ depth_layer (Sexpr-F.Str text);
+  symbol = λ text _. ap depth_of (sym (rolls-Symbol text)) ∙ fold-roll-Sexpr ℕ depth_layer (Sexpr-F.Symbol text);
+  keyword = λ text _. ap depth_of (sym (rolls-Keyword text)) ∙ fold-roll-Sexpr ℕ depth_layer (Sexpr-F.Keyword text);
+  list = λ parts _ atom. let e = sym (spelled-List parts) ∙ atom in cc;
+})
 
 -- a tree that is legal, and shallow behind n open brackets
 pub record Fits (n : ℕ) (tree : Sexpr) : Type 0 where
@@ -70,9 +69,9 @@ shallow_row n (tree ∷ row) within all = omega (arith, all.0.shallow, shallow_r
 
 list_fits : (row : List Sexpr) (rows : List (List Sexpr)) → RowsFit (row ∷ rows) → Fits (length rows) (sexpr.List row)
 list_fits row rows fit = record {
-    legal = legal-List row ∙ legal_row (length (row ∷ rows)) row fit.0;
-    shallow = omega (arith, depth-List row, shallow_row (length (row ∷ rows)) row fit.1 fit.0);
-  }
+  legal = legal-List row ∙ legal_row (length (row ∷ rows)) row fit.0;
+  shallow = omega (arith, depth-List row, shallow_row (length (row ∷ rows)) row fit.1 fit.0);
+}
 
 atom_fits : (tree : Sexpr) (n : ℕ) → IsLegalAtom tree → n ≤ open_limit → Fits n tree
 atom_fits tree n atom within = record { legal = atom.legal; shallow = omega (arith, flat tree atom.atom) }

@@ -1,14 +1,14 @@
 -- Each token that stands at the front of a text is a bracket or an atom with a text of its kind.
-use Rattle.std.proofs.Common.{◌≡◌, ℕ, zero, suc, ◌+◌, ◌<◌, Bool, true, false, cond, not, ◌&&◌, List, [], ◌∷◌, ◌++◌, length, take, drop, get_or, eqb, ltb, Option, None, Some, refl, sym, ap, ◌∙◌, subst, arith, one-add, ◌⊎◌, inl, inr, ◌-◌}
-use Rattle.std.specs.List.{list_all, position, position_or_len, prefix_len, before_first}
+use Rattle.std.proofs.Common.{◌≡◌, ℕ, zero, suc, ◌+◌, ◌<◌, Bool, true, false, cond, not, ◌&&◌, List, [], ◌∷◌, length, take, drop, get_or, eqb, ltb, Option, None, Some, refl, sym, ap, ◌∙◌, subst, arith, one-add, ◌⊎◌, inl, inr, ◌-◌}
+use Rattle.std.specs.List.{list_all, position, prefix_len, before_first}
 use Rattle.std.specs.Char.{is_ascii_hexdigit}
 use Rattle.std.proofs.lemmas.Bool.Decides.{nat_tests}
 use Rattle.mbqi_values.specs.declared.fault.FaultKind.{FaultKind}
 use Rattle.mbqi_values.specs.declared.fault.FaultKind.TheVariants.{BadByte, BadNumeral}
 use Rattle.sexpr_text.specs.Bytes.{class_of, is_symbol_byte, is_content, is_quoted_content, is_quote, is_bar, word_of}
-use Rattle.sexpr_text.specs.Front.{front_of, front_by, number_front, literal_front, radix_front, keyword_front, string_front, quoted_front, enclosed, enclosed_by, is_numeral, is_decimal, is_binary_digit, undoubled, content_len, atom}
+use Rattle.sexpr_text.specs.Front.{front_of, front_by, number_front, literal_front, radix_front, keyword_front, string_front, quoted_front, enclosed_by, is_numeral, is_decimal, is_binary_digit, undoubled, content_len, atom}
 use Rattle.sexpr_text.specs.Legal.{is_legal, is_legal_layer}
-use Rattle.sexpr_text.specs.Lexis.{Placed, Lexed, Ended, Broken, Next, lexed_after, lexed_from}
+use Rattle.sexpr_text.specs.Lexis.{Lexed, Ended, Broken, Next, lexed_after, lexed_from}
 use Rattle.sexpr_text.specs.declared.class.Class.{Class}
 use Rattle.sexpr_text.specs.declared.class.Class.TheVariants as class
 use Rattle.sexpr_text.specs.declared.tree.Sexpr.{Sexpr}
@@ -16,7 +16,6 @@ use Rattle.sexpr_text.specs.declared.tree.Sexpr.TheVariants as sexpr
 use Rattle.sexpr_text.specs.declared.tree.Sexpr.TheVariants.{rolls-Numeral, rolls-Decimal, rolls-Hex, rolls-Binary, rolls-Str, rolls-Symbol, rolls-Keyword, rolls-List}
 use Rattle.sexpr_text.specs.declared.tree.Sexpr.TheFolds.{fold-roll-Sexpr}
 use Rattle.sexpr_text.specs.declared.tree.Sexpr.TheOpen.{Sexpr-F}
-use Rattle.sexpr_text.specs.declared.token.Token.{Token}
 use Rattle.sexpr_text.specs.declared.token.Token.TheVariants.{Open, Close, Atom}
 use Rattle.sexpr_text.specs.declared.token.Front.{Front}
 use Rattle.sexpr_text.specs.declared.token.Front.TheVariants as front
@@ -121,9 +120,9 @@ number_gives word =
     elim (is_numeral word) as (λ t. is_numeral word ≡ t → GivesAtom (cond t (atom (sexpr.Numeral word) (length word)) (cond (is_decimal word) (atom (sexpr.Decimal word) (length word)) (front.Fault BadNumeral 0)))) [
       | true ↦ λ is. record { atom = numeral_is_atom word; legal = legal-Numeral word ∙ is }
       | false ↦ λ _. elim (is_decimal word) as (λ t. is_decimal word ≡ t → GivesAtom (cond t (atom (sexpr.Decimal word) (length word)) (front.Fault BadNumeral 0))) [
-          | true ↦ λ is. record { atom = decimal_is_atom word; legal = legal-Decimal word ∙ is }
-          | false ↦ λ _. tt
-        ] refl
+        | true ↦ λ is. record { atom = decimal_is_atom word; legal = legal-Decimal word ∙ is }
+        | false ↦ λ _. tt
+      ] refl
     ] refl
 
 -- a word that begins with a digit has a byte
@@ -136,9 +135,9 @@ unfolding radix_front
 radix_gives is_digit tree word none legal =
     elim (is_digit (get_or word 0 0)) as (λ t. is_digit (get_or word 0 0) ≡ t → GivesAtom (cond t (cond (list_all is_digit word) (atom tree (length word + 2)) (front.Fault BadNumeral 0)) (front.Fault BadByte 0))) [
       | true ↦ λ here. elim (list_all is_digit word) as (λ t. list_all is_digit word ≡ t → GivesAtom (cond t (atom tree (length word + 2)) (front.Fault BadNumeral 0))) [
-          | true ↦ λ all. legal (some_digit is_digit word none here) all
-          | false ↦ λ _. tt
-        ] refl
+        | true ↦ λ all. legal (some_digit is_digit word none here) all
+        | false ↦ λ _. tt
+      ] refl
       | false ↦ λ _. tt
     ] refl
 

@@ -1,19 +1,18 @@
 -- A tree's text is read again as the tree: its tokens, in any place, before bytes that don't belong to it.
-use Rattle.std.proofs.Common.{◌≡◌, ℕ, zero, suc, ◌+◌, ◌-◌, ◌<◌, ◌≤◌, Bool, true, false, cond, ◌&&◌, eqb, ltb, max, List, [], ◌∷◌, ◌++◌, map, length, drop, take, get_or, Option, None, Some, codes, refl, sym, ap, ◌∙◌, subst, arith, append_assoc, append-nil, length-append, ◌⊎◌, inl, inr, All, IsTrue}
-use Rattle.std.specs.List.{list_all, flat_map, AllByRecursion, join_by}
+use Rattle.std.proofs.Common.{◌≡◌, ℕ, ◌+◌, ◌-◌, ◌<◌, ◌≤◌, Bool, true, false, cond, ◌&&◌, eqb, max, List, [], ◌∷◌, ◌++◌, map, length, drop, None, Some, codes, refl, sym, ap, ◌∙◌, subst, arith, append_assoc, append-nil, length-append, ◌⊎◌, inl, inr, All, IsTrue}
+use Rattle.std.specs.List.{list_all, flat_map, AllByRecursion}
 use Rattle.std.proofs.Math.Seq.{drop-append_seam}
 use Rattle.std.proofs.lemmas.List.Sums.{list_all-from_AllPass}
 use Rattle.std.proofs.lemmas.List.Elements.{recursion_from_All}
 use Rattle.std.proofs.lemmas.Bool.Decides.{nat_tests}
 use Rattle.mbqi_values.specs.declared.fault.FaultKind.TheVariants.{Unopened, TooDeep}
-use Rattle.mbqi_values.specs.declared.fault.Refusal.{Refusal}
-use Rattle.sexpr_text.specs.Bytes.{class_of, is_symbol_byte, is_quote}
+use Rattle.sexpr_text.specs.Bytes.{class_of, is_symbol_byte}
 use Rattle.sexpr_text.specs.Depth.{depth_of, depth_layer, highest, IsShallow}
 use Rattle.sexpr_text.specs.Front.{front_of}
-use Rattle.sexpr_text.specs.Lexis.{Placed, Lexed, Ended, Broken, Next, lexed, lexed_after, lexed_from, tokens_of, fault_from, fault_at, first_fault, open_limit}
+use Rattle.sexpr_text.specs.Lexis.{Placed, Lexed, Ended, Next, lexed, lexed_after, lexed_from, tokens_of, fault_from, open_limit}
 use Rattle.sexpr_text.specs.Forms.{spelled, BeginAt, EndAt, SpellForm, SpellForms, HaveForms}
 use Rattle.sexpr_text.specs.Legal.{is_legal, is_legal_layer}
-use Rattle.sexpr_text.specs.Text.{text_of, texts_of, lines_of, forms_at, is_simple, doubled, symbol_text}
+use Rattle.sexpr_text.specs.Text.{text_of, texts_of, lines_of, forms_at, is_simple, doubled}
 use Rattle.sexpr_text.specs.declared.tree.Form.{Form}
 use Rattle.sexpr_text.specs.declared.tree.Sexpr.{Sexpr}
 use Rattle.sexpr_text.specs.declared.tree.Sexpr.TheVariants as sexpr
@@ -22,12 +21,11 @@ use Rattle.sexpr_text.specs.declared.tree.Sexpr.TheFolds.{fold-roll-Sexpr}
 use Rattle.sexpr_text.specs.declared.tree.Sexpr.TheOpen.{Sexpr-F}
 use Rattle.sexpr_text.specs.declared.token.Token.{Token}
 use Rattle.sexpr_text.specs.declared.token.Token.TheVariants.{Open, Close, Atom}
-use Rattle.sexpr_text.specs.declared.token.Front.{Front}
 use Rattle.sexpr_text.specs.declared.token.Front.TheVariants as front
 use Rattle.sexpr_text.proofs.Fronts.{IsDelimited, numeral_front, decimal_front, hex_front, binary_front, string_is_front, simple_front, bars_front, keyword_is_front, numeral_some, decimal_some, simple_some}
 use Rattle.sexpr_text.proofs.Legality.{both, legal-Numeral, legal-Decimal, legal-Hex, legal-Binary, legal-Str, legal-Symbol, legal-Keyword}
 use Rattle.sexpr_text.proofs.Soundness.{token_of, map-append, ends_with}
-use Rattle.sexpr_text.proofs.Spelling.{Cases, by_cases, IsAtom, spelled-List, numeral_is_atom, decimal_is_atom, hex_is_atom, binary_is_atom, str_is_atom, symbol_is_atom, keyword_is_atom}
+use Rattle.sexpr_text.proofs.Spelling.{by_cases, IsAtom, spelled-List, numeral_is_atom, decimal_is_atom, hex_is_atom, binary_is_atom, str_is_atom, symbol_is_atom, keyword_is_atom}
 use Rattle.sexpr_text.proofs.Texts.{numeral_text, decimal_text, hex_text, binary_text, str_text, symbol_is_text, keyword_text, list_text}
 use Rattle.sexpr_text.proofs.Turns.{behind_first}
 
@@ -80,9 +78,9 @@ atom_back tree text at rest atom flat is some front =
       has = record {
         own = placed ∷ [];
         lexes = ap (λ t. lexed_from 0 at (t ++ rest)) is
-          ∙ atom_tokens at (Atom tree) (length text) (text ++ rest) some (omega (arith, length-append text rest)) front
-          ∙ ap (λ bs. Next placed (lexed_from 0 (at + length text) bs)) (drop-append_seam text rest)
-          ∙ ap (λ t. Next placed (lexed_from 0 (at + length t) rest)) (sym is);
+            ∙ atom_tokens at (Atom tree) (length text) (text ++ rest) some (omega (arith, length-append text rest)) front
+            ∙ ap (λ bs. Next placed (lexed_from 0 (at + length text) bs)) (drop-append_seam text rest)
+            ∙ ap (λ t. Next placed (lexed_from 0 (at + length t) rest)) (sym is);
         tokens_are = sym atom;
         faultless = subst (AreFaultless (placed ∷ [])) (sym flat) (atom_faultless tree at (at + length text));
       };
@@ -104,26 +102,26 @@ hex_back : (text : List ℕ) → IsReadBack (sexpr.Hex text)
 hex_back text legal at rest ends =
     let parts = both _ _ (sym (legal-Hex text) ∙ legal) in
     atom_back (sexpr.Hex text) (codes "#x" ++ text) at rest (hex_is_atom text) (ap depth_of (sym (rolls-Hex text)) ∙ fold-roll-Sexpr ℕ depth_layer (Sexpr-F.Hex text)) (hex_text text) (omega arith)
-      (hex_front text rest parts.0 parts.1 ends ∙ ap (front.Token (Atom (sexpr.Hex text))) (omega arith))
+    (hex_front text rest parts.0 parts.1 ends ∙ ap (front.Token (Atom (sexpr.Hex text))) (omega arith))
 
 binary_back : (text : List ℕ) → IsReadBack (sexpr.Binary text)
 binary_back text legal at rest ends =
     let parts = both _ _ (sym (legal-Binary text) ∙ legal) in
     atom_back (sexpr.Binary text) (codes "#b" ++ text) at rest (binary_is_atom text) (ap depth_of (sym (rolls-Binary text)) ∙ fold-roll-Sexpr ℕ depth_layer (Sexpr-F.Binary text)) (binary_text text) (omega arith)
-      (binary_front text rest parts.0 parts.1 ends ∙ ap (front.Token (Atom (sexpr.Binary text))) (omega arith))
+    (binary_front text rest parts.0 parts.1 ends ∙ ap (front.Token (Atom (sexpr.Binary text))) (omega arith))
 
 keyword_back : (text : List ℕ) → IsReadBack (sexpr.Keyword text)
 keyword_back text legal at rest ends =
     let parts = both _ _ (sym (legal-Keyword text) ∙ legal) in
     atom_back (sexpr.Keyword text) (codes ":" ++ text) at rest (keyword_is_atom text) (ap depth_of (sym (rolls-Keyword text)) ∙ fold-roll-Sexpr ℕ depth_layer (Sexpr-F.Keyword text)) (keyword_text text) (omega arith)
-      (keyword_is_front text rest parts.0 parts.1 ends ∙ ap (front.Token (Atom (sexpr.Keyword text))) (omega arith))
+    (keyword_is_front text rest parts.0 parts.1 ends ∙ ap (front.Token (Atom (sexpr.Keyword text))) (omega arith))
 
 str_back : (text : List ℕ) → IsReadBack (sexpr.Str text)
 str_back text legal at rest ends =
     atom_back (sexpr.Str text) (codes "\"" ++ (doubled text ++ codes "\"")) at rest (str_is_atom text) (ap depth_of (sym (rolls-Str text)) ∙ fold-roll-Sexpr ℕ depth_layer (Sexpr-F.Str text)) (str_text text) (omega arith)
-      (ap (λ bytes. front_of (34 ∷ bytes)) (append_assoc (doubled text) (34 ∷ []) rest)
-        ∙ string_is_front text rest (sym (legal-Str text) ∙ legal) ends.no_quote
-        ∙ ap (front.Token (Atom (sexpr.Str text))) (omega (arith, length-append (doubled text) (34 ∷ []))))
+    (ap (λ bytes. front_of (34 ∷ bytes)) (append_assoc (doubled text) (34 ∷ []) rest)
+    ∙ string_is_front text rest (sym (legal-Str text) ∙ legal) ends.no_quote
+    ∙ ap (front.Token (Atom (sexpr.Str text))) (omega (arith, length-append (doubled text) (34 ∷ []))))
 
 symbol_back : (text : List ℕ) → IsReadBack (sexpr.Symbol text)
 symbol_back text legal at rest ends =
@@ -134,7 +132,7 @@ symbol_back text legal at rest ends =
       | false ↦ λ other. atom_back (sexpr.Symbol text) (codes "|" ++ (text ++ codes "|")) at rest (symbol_is_atom text) flat
           (symbol_is_text text ∙ ap (λ t. cond t text (codes "|" ++ (text ++ codes "|"))) other) (omega arith)
           (ap (λ bytes. front_of (124 ∷ bytes)) (append_assoc text (124 ∷ []) rest) ∙ bars_front text rest (sym (legal-Symbol text) ∙ legal)
-            ∙ ap (front.Token (Atom (sexpr.Symbol text))) (omega (arith, length-append text (124 ∷ []))))
+          ∙ ap (front.Token (Atom (sexpr.Symbol text))) (omega (arith, length-append text (124 ∷ []))))
     ] refl
 
 -- one byte that is a token or white space
@@ -183,8 +181,8 @@ more_back (part ∷ parts) backs legal at rest ends =
     record {
       own = one.has.own ++ two.own;
       lexes = ap (λ bytes. lexed_from 0 at (32 ∷ bytes)) (append_assoc (text_of part) (more_texts parts) rest) ∙ blank_first at _ ∙ one.has.lexes
-        ∙ ap (before one.has.own) (two.lexes ∙ ap (λ n. before two.own (lexed_from 0 n rest)) (omega (arith, length-append (text_of part) (more_texts parts))))
-        ∙ sym (before-append one.has.own two.own _);
+          ∙ ap (before one.has.own) (two.lexes ∙ ap (λ n. before two.own (lexed_from 0 n rest)) (omega (arith, length-append (text_of part) (more_texts parts))))
+          ∙ sym (before-append one.has.own two.own _);
       tokens_are = map-append one.has.own two.own ∙ ap (λ ts. ts ++ map token_of two.own) one.has.tokens_are ∙ ap (λ ts. spelled part ++ ts) two.tokens_are;
       faultless = both_faultless one.has.own two.own (depth_of part) (depths parts) one.has.faultless two.faultless;
     }
@@ -200,8 +198,8 @@ parts_back (part ∷ parts) backs legal at rest ends =
     record {
       own = one.has.own ++ two.own;
       lexes = ap (lexed_from 0 at) (append_assoc (text_of part) (more_texts parts) rest) ∙ one.has.lexes
-        ∙ ap (before one.has.own) (two.lexes ∙ ap (λ n. before two.own (lexed_from 0 n rest)) (omega (arith, length-append (text_of part) (more_texts parts))))
-        ∙ sym (before-append one.has.own two.own _);
+          ∙ ap (before one.has.own) (two.lexes ∙ ap (λ n. before two.own (lexed_from 0 n rest)) (omega (arith, length-append (text_of part) (more_texts parts))))
+          ∙ sym (before-append one.has.own two.own _);
       tokens_are = map-append one.has.own two.own ∙ ap (λ ts. ts ++ map token_of two.own) one.has.tokens_are ∙ ap (λ ts. spelled part ++ ts) two.tokens_are;
       faultless = both_faultless one.has.own two.own (depth_of part) (depths parts) one.has.faultless two.faultless;
     }
@@ -228,12 +226,13 @@ unfolding fault_from
 list_faultless inner depth a b c e parts rest d o within =
     let close : Placed = record { token = Close; from = c; to = e } in
     let o' = cond (eqb d 0) a o in
-    let one = parts (Next close rest) (d + 1) o' (omega arith) in
-    (one.0,
+    let one = parts (Next close rest) (d + 1) o' (omega arith) in (
+      one.0,
       ap (λ t. cond t (Some (record { at = a; kind = TooDeep })) (fault_from (d + 1) o' (before (inner ++ close ∷ []) rest))) (below_limit d depth within)
-      ∙ ap (fault_from (d + 1) o') (before-append inner (close ∷ []) rest) ∙ one.1
-      ∙ ap (λ t. cond t (Some (record { at = c; kind = Unopened })) (fault_from (d + 1 - 1) one.0 rest)) (some_open d)
-      ∙ ap (λ n. fault_from n one.0 rest) (omega arith))
+          ∙ ap (fault_from (d + 1) o') (before-append inner (close ∷ []) rest) ∙ one.1
+          ∙ ap (λ t. cond t (Some (record { at = c; kind = Unopened })) (fault_from (d + 1 - 1) one.0 rest)) (some_open d)
+          ∙ ap (λ n. fault_from n one.0 rest) (omega arith),
+    )
 
 list_len : (parts : List Sexpr) (at : ℕ) → at + 1 + length (texts_of parts) + 1 ≡ at + length (text_of (sexpr.List parts))
 list_len parts at = omega (arith, ap length (list_text parts), length-append (texts_of parts) (41 ∷ []))
@@ -248,9 +247,9 @@ list_back parts backs legal at rest ends =
       has = record {
         own = open_ ∷ (inner.own ++ close ∷ []);
         lexes = ap (λ text. lexed_from 0 at (text ++ rest)) (list_text parts)
-          ∙ ap (λ bytes. lexed_from 0 at (40 ∷ bytes)) (append_assoc (texts_of parts) (41 ∷ []) rest)
-          ∙ open_first at _
-          ∙ ap (Next open_) (inner.lexes ∙ ap (before inner.own) (close_first close_at rest ∙ ap (λ n. Next close (lexed_from 0 n rest)) (list_len parts at))
+            ∙ ap (λ bytes. lexed_from 0 at (40 ∷ bytes)) (append_assoc (texts_of parts) (41 ∷ []) rest)
+            ∙ open_first at _
+            ∙ ap (Next open_) (inner.lexes ∙ ap (before inner.own) (close_first close_at rest ∙ ap (λ n. Next close (lexed_from 0 n rest)) (list_len parts at))
             ∙ sym (before-append inner.own (close ∷ []) _));
         tokens_are = ap (λ ts. Open ∷ ts) (map-append inner.own (close ∷ []) ∙ ap (λ ts. ts ++ Close ∷ []) inner.tokens_are) ∙ sym (spelled-List parts);
         faultless = subst (AreFaultless (open_ ∷ (inner.own ++ close ∷ []))) (sym (depth-List parts)) (list_faultless inner.own (depths parts) at (at + 1) close_at (close_at + 1) inner.faultless);
@@ -261,15 +260,15 @@ list_back parts backs legal at rest ends =
 
 pub tree_back : (tree : Sexpr) → IsReadBack tree
 tree_back = by_cases IsReadBack (record {
-    numeral = numeral_back;
-    decimal = decimal_back;
-    hex = hex_back;
-    binary = binary_back;
-    str = str_back;
-    symbol = symbol_back;
-    keyword = keyword_back;
-    list = list_back;
-  })
+  numeral = numeral_back;
+  decimal = decimal_back;
+  hex = hex_back;
+  binary = binary_back;
+  str = str_back;
+  symbol = symbol_back;
+  keyword = keyword_back;
+  list = list_back;
+})
 
 at_end : IsDelimited []
 unfolding is_symbol_byte
@@ -294,9 +293,9 @@ none_open o = refl
 -- a text is read as the forms whose tokens it has
 have_forms : (bytes : List ℕ) (own : List Placed) (depth : ℕ) (forms : List Form) → lexed bytes ≡ before own Ended → AreFaultless own depth → depth ≤ open_limit → SpellForms own forms → HaveForms bytes forms
 have_forms bytes own depth forms is faultless within spelled = record {
-    faultless = ap (fault_from 0 0) is ∙ (faultless Ended 0 0 (omega arith)).1 ∙ none_open _;
-    spelled = subst (λ tokens. SpellForms tokens forms) (sym (ap tokens_of is ∙ tokens-before own)) spelled;
-  }
+  faultless = ap (fault_from 0 0) is ∙ (faultless Ended 0 0 (omega arith)).1 ∙ none_open _;
+  spelled = subst (λ tokens. SpellForms tokens forms) (sym (ap tokens_of is ∙ tokens-before own)) spelled;
+}
 
 one_form : (tree : Sexpr) (at : ℕ) (rest : List ℕ) (back : TreeBack tree at rest) → SpellForm back.has.own (record { tree = tree; from = at; to = at + length (text_of tree) })
 one_form tree at rest back = record { tree = back.has.tokens_are; from = back.begins; to = back.ends }
@@ -305,8 +304,8 @@ pub read_back : (tree : Sexpr) → is_legal tree ≡ true → IsShallow tree →
 read_back tree legal shallow =
     let back = tree_back tree legal 0 [] at_end in
     have_forms (text_of tree) back.has.own (depth_of tree) _
-      (ap lexed (sym (append-nil (text_of tree))) ∙ back.has.lexes ∙ ap (before back.has.own) (lexed-end _)) back.has.faultless shallow
-      (back.has.own, [], sym (append-nil back.has.own), one_form tree 0 [] back, refl)
+    (ap lexed (sym (append-nil (text_of tree))) ∙ back.has.lexes ∙ ap (before back.has.own) (lexed-end _)) back.has.faultless shallow
+    (back.has.own, [], sym (append-nil back.has.own), one_form tree 0 [] back, refl)
 
 line_first : (at : ℕ) (bytes : List ℕ) → lexed_from 0 at (10 ∷ bytes) ≡ lexed_from 0 (at + 1) bytes
 unfolding lexed_from front_of class_of
@@ -332,7 +331,7 @@ lines_at (tree ∷ trees) legal shallow at =
     record {
       own = one.has.own ++ more.own;
       lexes = ap (lexed_from 0 at) (append_assoc (text_of tree) (10 ∷ []) (lines_of trees)) ∙ one.has.lexes
-        ∙ ap (before one.has.own) (line_first end (lines_of trees) ∙ more.lexes) ∙ sym (before-append one.has.own more.own Ended);
+          ∙ ap (before one.has.own) (line_first end (lines_of trees) ∙ more.lexes) ∙ sym (before-append one.has.own more.own Ended);
       faultless = both_faultless one.has.own more.own open_limit open_limit (within_limit one.has.own (depth_of tree) shallow.0 one.has.faultless) more.faultless;
       spelled = (one.has.own, more.own, refl, one_form tree at _ one, more.spelled);
     }

@@ -1,11 +1,9 @@
 -- What a whole text gives: its forms, with texts of their kinds, or its first fault.
-use Rattle.std.proofs.Common.{◌≡◌, ℕ, Bool, true, ◌&&◌, List, [], ◌∷◌, ◌++◌, length, Option, None, Some, Result, Ok, Err, refl, sym, ap, ◌∙◌, subst, ◌⊎◌, inl, inr, ◌+◌, ◌≤◌, IfOk, IsTrue, All, arith}
-use Rattle.std.specs.List.{list_all, AllByRecursion}
+use Rattle.std.proofs.Common.{◌≡◌, ℕ, List, [], ◌∷◌, None, Some, Ok, Err, refl, sym, ◌∙◌, subst, ◌⊎◌, inl, inr, IfOk, IsTrue, All, arith}
 use Rattle.mbqi_values.specs.declared.fault.Refusal.{Refusal}
-use Rattle.sexpr_text.specs.Lexis.{Placed, Lexed, Ended, Broken, Next, lexed, tokens_of, fault_from, first_fault}
-use Rattle.sexpr_text.specs.Forms.{HaveForms, IsRefused, SpellForms}
+use Rattle.sexpr_text.specs.Lexis.{Lexed, Ended, Broken, Next, lexed, tokens_of, first_fault}
+use Rattle.sexpr_text.specs.Forms.{HaveForms, IsRefused}
 use Rattle.sexpr_text.specs.declared.tree.Form.{Form}
-use Rattle.sexpr_text.specs.declared.token.Token.TheVariants.{Atom}
 use Rattle.sexpr_text.proofs.Legality.{HaveLegalAtoms, lexed_gives}
 use Rattle.std.proofs.lemmas.List.Elements.{All-nil, All-cons}
 use Rattle.sexpr_text.specs.Depth.{IsShallow}
@@ -33,9 +31,9 @@ fault_read bytes refusal is = subst (λ read. Gives read (first_fault bytes) (to
 -- a text has forms or a fault
 pub some_answer : (bytes : List ℕ) → ((forms : List Form) × HaveForms bytes forms) ⊎ ((refusal : Refusal) × IsRefused bytes refusal)
 some_answer bytes = elim (reading [] 0 [] (lexed bytes)) as (λ read. reading [] 0 [] (lexed bytes) ≡ read → ((forms : List Form) × HaveForms bytes forms) ⊎ ((refusal : Refusal) × IsRefused bytes refusal)) [
-    | Ok forms ↦ λ is. inl (forms, forms_read bytes forms is)
-    | Err refusal ↦ λ is. inr (refusal, fault_read bytes refusal is)
-  ] refl
+  | Ok forms ↦ λ is. inl (forms, forms_read bytes forms is)
+  | Err refusal ↦ λ is. inr (refusal, fault_read bytes refusal is)
+] refl
 
 -- and never both
 pub not_both : (bytes : List ℕ) (forms : List Form) (refusal : Refusal) → HaveForms bytes forms → IsRefused bytes refusal → ⊥

@@ -1,5 +1,5 @@
 -- What the reader's plan gives is what the bytes have: their forms, or their first fault.
-use Rattle.std.proofs.Common.{◌≡◌, ℕ, zero, suc, ◌+◌, ◌-◌, Bool, true, false, cond, eqb, List, [], ◌∷◌, ◌++◌, map, length, Option, None, Some, Result, Ok, Err, MatchResult, refl, sym, ap, ◌∙◌, subst, arith, append_assoc, append-nil, add-one, sub-one}
+use Rattle.std.proofs.Common.{◌≡◌, ℕ, suc, ◌+◌, ◌-◌, true, false, cond, eqb, List, [], ◌∷◌, ◌++◌, map, length, Option, None, Some, Result, Ok, Err, refl, sym, ap, ◌∙◌, subst, arith, append_assoc, append-nil}
 use Rattle.std.specs.List.{flat_map}
 use Rattle.std.proofs.lemmas.Bool.Decides.{nat_tests}
 use Rattle.mbqi_values.specs.declared.fault.FaultKind.TheVariants.{Unopened, Unclosed, TooDeep}
@@ -78,33 +78,33 @@ one_row row tree before own is =
 put_row : (forms : List Form) (o : ℕ) (row : List Sexpr) (rows : List (List Sexpr)) (tokens : List Placed) (own : List Placed) (tree : Sexpr) →
     Read forms o (row ∷ rows) tokens → map token_of own ≡ spelled tree → Read forms o ((row ++ tree ∷ []) ∷ rows) (tokens ++ own)
 put_row forms o row rows tokens own tree read is = record {
-    done = read.done;
-    opens = read.opens ++ own;
-    whole = one_more read.done read.opens own tokens read.whole;
-    spelled = read.spelled;
-    behind = map-append read.opens own ∙ ap (λ ts. ts ++ map token_of own) read.behind ∙ one_row row tree (open_tokens rows) (map token_of own) is;
-    begins = begins_still read.opens own o read.begins;
-  }
+  done = read.done;
+  opens = read.opens ++ own;
+  whole = one_more read.done read.opens own tokens read.whole;
+  spelled = read.spelled;
+  behind = map-append read.opens own ∙ ap (λ ts. ts ++ map token_of own) read.behind ∙ one_row row tree (open_tokens rows) (map token_of own) is;
+  begins = begins_still read.opens own o read.begins;
+}
 
 -- a tree that is a form
 put_form : (forms : List Form) (o from to : ℕ) (done own : List Placed) (tokens : List Placed) (tree : Sexpr) →
     tokens ≡ done ++ own → SpellForms done forms → SpellForm own (record { tree = tree; from = from; to = to }) →
     Read (forms ++ record { tree = tree; from = from; to = to } ∷ []) o [] tokens
 put_form forms o from to done own tokens tree is all one = record {
-    done = done ++ own;
-    opens = [];
-    whole = is ∙ sym (append-nil (done ++ own));
-    spelled = more_forms done own forms (record { tree = tree; from = from; to = to }) all one;
-    behind = refl;
-    begins = tt;
-  }
+  done = done ++ own;
+  opens = [];
+  whole = is ∙ sym (append-nil (done ++ own));
+  spelled = more_forms done own forms (record { tree = tree; from = from; to = to }) all one;
+  behind = refl;
+  begins = tt;
+}
 
 atom_read : (forms : List Form) (o : ℕ) (rows : List (List Sexpr)) (tokens : List Placed) (placed : Placed) (tree : Sexpr) →
     placed.token ≡ Atom tree → IsAtom tree → Read forms o rows tokens → ReadTo (put_in forms o rows tree placed.from placed.to) (tokens ++ placed ∷ [])
 atom_read forms o [] tokens placed tree is atom read =
     put_form forms o placed.from placed.to read.done (placed ∷ []) _ tree
-      (one_more read.done read.opens (placed ∷ []) tokens read.whole ∙ ap (λ ts. read.done ++ (ts ++ placed ∷ [])) (no_tokens read.opens read.behind))
-      read.spelled (record { tree = ap (λ t. t ∷ []) is ∙ sym atom; from = refl; to = refl })
+    (one_more read.done read.opens (placed ∷ []) tokens read.whole ∙ ap (λ ts. read.done ++ (ts ++ placed ∷ [])) (no_tokens read.opens read.behind))
+    read.spelled (record { tree = ap (λ t. t ∷ []) is ∙ sym atom; from = refl; to = refl })
 atom_read forms o (row ∷ rows) tokens placed tree is atom read =
     put_row forms o row rows tokens (placed ∷ []) tree read (ap (λ t. t ∷ []) is ∙ sym atom)
 
@@ -117,17 +117,17 @@ close_read : (forms : List Form) (o : ℕ) (row : List Sexpr) (rows : List (List
     placed.token ≡ Close → Read forms o (row ∷ rows) tokens → ReadTo (put_in forms o rows (sexpr.List row) o placed.to) (tokens ++ placed ∷ [])
 close_read forms o row [] tokens placed is read =
     put_form forms o o placed.to read.done (read.opens ++ placed ∷ []) _ (sexpr.List row)
-      (one_more read.done read.opens (placed ∷ []) tokens read.whole) read.spelled
-      (record { tree = list_tokens row read.opens placed [] is read.behind; from = begins_still read.opens (placed ∷ []) o read.begins; to = ends_with read.opens placed })
+    (one_more read.done read.opens (placed ∷ []) tokens read.whole) read.spelled
+    (record { tree = list_tokens row read.opens placed [] is read.behind; from = begins_still read.opens (placed ∷ []) o read.begins; to = ends_with read.opens placed })
 close_read forms o row (outer ∷ rows) tokens placed is read = record {
-    done = read.done;
-    opens = read.opens ++ placed ∷ [];
-    whole = one_more read.done read.opens (placed ∷ []) tokens read.whole;
-    spelled = read.spelled;
-    behind = list_tokens row read.opens placed (open_tokens (outer ∷ rows)) is read.behind
+  done = read.done;
+  opens = read.opens ++ placed ∷ [];
+  whole = one_more read.done read.opens (placed ∷ []) tokens read.whole;
+  spelled = read.spelled;
+  behind = list_tokens row read.opens placed (open_tokens (outer ∷ rows)) is read.behind
       ∙ one_row outer (sexpr.List row) (open_tokens rows) (spelled (sexpr.List row)) refl;
-    begins = begins_still read.opens (placed ∷ []) o read.begins;
-  }
+  begins = begins_still read.opens (placed ∷ []) o read.begins;
+}
 
 some_open : (n : ℕ) → eqb (suc n) 0 ≡ false
 some_open n = grind (arith, nat_tests)
@@ -140,13 +140,13 @@ opens_at (row ∷ rows) opens o placed behind begins =
 open_read : (forms : List Form) (o : ℕ) (rows : List (List Sexpr)) (tokens : List Placed) (placed : Placed) →
     placed.token ≡ Open → Read forms o rows tokens → Read forms (cond (eqb (length rows) 0) placed.from o) ([] ∷ rows) (tokens ++ placed ∷ [])
 open_read forms o rows tokens placed is read = record {
-    done = read.done;
-    opens = read.opens ++ placed ∷ [];
-    whole = one_more read.done read.opens (placed ∷ []) tokens read.whole;
-    spelled = read.spelled;
-    behind = map-append read.opens (placed ∷ []) ∙ ap (λ ts. ts ++ placed.token ∷ []) read.behind ∙ ap (λ t. open_tokens rows ++ t ∷ []) is;
-    begins = opens_at rows read.opens o placed read.behind read.begins;
-  }
+  done = read.done;
+  opens = read.opens ++ placed ∷ [];
+  whole = one_more read.done read.opens (placed ∷ []) tokens read.whole;
+  spelled = read.spelled;
+  behind = map-append read.opens (placed ∷ []) ∙ ap (λ ts. ts ++ placed.token ∷ []) read.behind ∙ ap (λ t. open_tokens rows ++ t ∷ []) is;
+  begins = opens_at rows read.opens o placed read.behind read.begins;
+}
 
 -- no token is a list
 abbrev pub HaveAtoms : Lexed → Type 0
@@ -190,9 +190,9 @@ after_open : (rest : Lexed) → IsSound rest → (forms : List Form) (o : ℕ) (
     Gives (then_read (opened (record { forms = forms; outermost = o; rows = rows }) placed.from) (λ next. read_from next rest)) (fault_at (length rows) o placed.from Open (λ d p. fault_from d p rest)) ((tokens ++ placed ∷ []) ++ tokens_of rest)
 after_open rest sound forms o rows tokens placed is read =
     elim (eqb (length rows) open_limit) as (λ t. Gives
-      (then_read (cond t (Err (record { at = placed.from; kind = TooDeep })) (Ok (record { forms = forms; outermost = cond (eqb (length rows) 0) placed.from o; rows = [] ∷ rows }))) (λ next. read_from next rest))
-      (cond t (Some (record { at = placed.from; kind = TooDeep })) (fault_from (length rows + 1) (cond (eqb (length rows) 0) placed.from o) rest))
-      ((tokens ++ placed ∷ []) ++ tokens_of rest)) [
+    (then_read (cond t (Err (record { at = placed.from; kind = TooDeep })) (Ok (record { forms = forms; outermost = cond (eqb (length rows) 0) placed.from o; rows = [] ∷ rows }))) (λ next. read_from next rest))
+    (cond t (Some (record { at = placed.from; kind = TooDeep })) (fault_from (length rows + 1) (cond (eqb (length rows) 0) placed.from o) rest))
+    ((tokens ++ placed ∷ []) ++ tokens_of rest)) [
       | true ↦ refl
       | false ↦ gives_along _ _ _ _ _ (ap (λ d. fault_from d (cond (eqb (length rows) 0) placed.from o) rest) (omega arith)) refl
           (sound forms (cond (eqb (length rows) 0) placed.from o) ([] ∷ rows) (tokens ++ placed ∷ []) (open_read forms o rows tokens placed is read))
@@ -204,9 +204,9 @@ after_close : (rest : Lexed) → IsSound rest → (forms : List Form) (o : ℕ) 
 after_close rest sound forms o [] tokens placed is read = refl
 after_close rest sound forms o (row ∷ rows) tokens placed is read =
     gives_along _ (fault_from (length rows) o rest) _ _ _
-      (sym (ap (λ t. cond t (Some (record { at = placed.from; kind = Unopened })) (fault_from (length (row ∷ rows) - 1) o rest)) (some_open (length rows)) ∙ ap (λ d. fault_from d o rest) (omega arith)))
-      refl
-      (after_put rest sound forms o rows (sexpr.List row) o placed.to (length rows) (tokens ++ placed ∷ []) (close_read forms o row rows tokens placed is read) refl)
+    (sym (ap (λ t. cond t (Some (record { at = placed.from; kind = Unopened })) (fault_from (length (row ∷ rows) - 1) o rest)) (some_open (length rows)) ∙ ap (λ d. fault_from d o rest) (omega arith)))
+    refl
+    (after_put rest sound forms o rows (sexpr.List row) o placed.to (length rows) (tokens ++ placed ∷ []) (close_read forms o row rows tokens placed is read) refl)
 
 after_next : (rest : Lexed) → IsSound rest → (forms : List Form) (o : ℕ) (rows : List (List Sexpr)) (tokens : List Placed) (placed : Placed) (token : Token) →
     placed.token ≡ token → ((tree : Sexpr) → placed.token ≡ Atom tree → IsAtom tree) → Read forms o rows tokens →

@@ -28,15 +28,15 @@ each_of P (part ∷ parts) = (part.1, each_of P parts)
 
 pub by_cases : (P : Sexpr → Type 0) → Cases P → (tree : Sexpr) → P tree
 by_cases P cases = ind-Sexpr P (λ x y is. subst (λ layer. P (roll-Sexpr layer)) is (elim y as (λ layer. P (roll-Sexpr (map-Sexpr ((tree : Sexpr) × P tree) Sexpr (λ e. e.0) layer))) [
-    | Sexpr-F.Numeral text ↦ subst P (sym (rolls-Numeral text)) (cases.numeral text)
-    | Sexpr-F.Decimal text ↦ subst P (sym (rolls-Decimal text)) (cases.decimal text)
-    | Sexpr-F.Hex text ↦ subst P (sym (rolls-Hex text)) (cases.hex text)
-    | Sexpr-F.Binary text ↦ subst P (sym (rolls-Binary text)) (cases.binary text)
-    | Sexpr-F.Str text ↦ subst P (sym (rolls-Str text)) (cases.str text)
-    | Sexpr-F.Symbol text ↦ subst P (sym (rolls-Symbol text)) (cases.symbol text)
-    | Sexpr-F.Keyword text ↦ subst P (sym (rolls-Keyword text)) (cases.keyword text)
-    | Sexpr-F.List parts ↦ subst P (sym (rolls-List (map (λ part. part.0) parts))) (cases.list (map (λ part. part.0) parts) (each_of P parts))
-  ]))
+  | Sexpr-F.Numeral text ↦ subst P (sym (rolls-Numeral text)) (cases.numeral text)
+  | Sexpr-F.Decimal text ↦ subst P (sym (rolls-Decimal text)) (cases.decimal text)
+  | Sexpr-F.Hex text ↦ subst P (sym (rolls-Hex text)) (cases.hex text)
+  | Sexpr-F.Binary text ↦ subst P (sym (rolls-Binary text)) (cases.binary text)
+  | Sexpr-F.Str text ↦ subst P (sym (rolls-Str text)) (cases.str text)
+  | Sexpr-F.Symbol text ↦ subst P (sym (rolls-Symbol text)) (cases.symbol text)
+  | Sexpr-F.Keyword text ↦ subst P (sym (rolls-Keyword text)) (cases.keyword text)
+  | Sexpr-F.List parts ↦ subst P (sym (rolls-List (map (λ part. part.0) parts))) (cases.list (map (λ part. part.0) parts) (each_of P parts))
+]))
 
 -- a tree that is one token
 abbrev pub IsAtom : Sexpr → Type 0

@@ -1,13 +1,12 @@
 -- The tokens from a place on: what stands at the front there, and the tokens behind it.
-use Rattle.std.proofs.Common.{◌≡◌, ℕ, zero, suc, ◌+◌, ◌-◌, ◌<◌, ◌≤◌, List, [], ◌∷◌, length, drop, refl, sym, ap, ◌∙◌, subst, arith, drop-drop, drop-cons, get_or, Result, Ok, Err}
+use Rattle.std.proofs.Common.{◌≡◌, ℕ, zero, suc, ◌+◌, ◌-◌, ◌<◌, ◌≤◌, List, [], ◌∷◌, length, drop, refl, sym, ap, ◌∙◌, arith, drop-drop, drop-cons, Err}
 use Rattle.std.proofs.lemmas.List.{drop_all}
 use Rattle.mbqi_values.specs.declared.fault.FaultKind.{FaultKind}
 use Rattle.mbqi_values.specs.declared.fault.Refusal.{Refusal}
-use Rattle.sexpr_text.specs.Front.{front_of, size_of}
-use Rattle.sexpr_text.specs.Lexis.{Placed, Lexed, Ended, Broken, Next, lexed_after, lexed_from}
+use Rattle.sexpr_text.specs.Front.{front_of}
+use Rattle.sexpr_text.specs.Lexis.{Placed, Lexed, Broken, Next, lexed_after, lexed_from}
 use Rattle.sexpr_text.specs.Reading.{read_from, step_by, then_read, finished_in}
 use Rattle.sexpr_text.specs.declared.reader.Reader.{Reader}
-use Rattle.sexpr_text.specs.declared.tree.Form.{Form}
 use Rattle.sexpr_text.specs.declared.token.Token.{Token}
 use Rattle.sexpr_text.specs.declared.token.Front.{Front}
 use Rattle.sexpr_text.specs.declared.token.Front.TheVariants as front

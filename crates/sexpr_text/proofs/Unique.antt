@@ -1,5 +1,5 @@
 -- Tokens spell at most one list of forms.
-use Rattle.std.proofs.Common.{◌≡◌, ℕ, suc, ◌+◌, List, [], ◌∷◌, ◌++◌, map, length, take, drop, Option, None, Some, refl, sym, ap, ◌∙◌, subst, arith, append_assoc, ◌⊎◌, inl, inr}
+use Rattle.std.proofs.Common.{◌≡◌, ℕ, suc, List, [], ◌∷◌, ◌++◌, map, length, take, drop, refl, sym, ap, ◌∙◌, subst, append_assoc, ◌⊎◌, inl, inr}
 use Rattle.std.specs.List.{flat_map, AllByRecursion}
 use Rattle.std.proofs.Math.Seq.{take-append_seam, drop-append_seam}
 use Rattle.sexpr_text.specs.Lexis.{Placed}
@@ -10,7 +10,7 @@ use Rattle.sexpr_text.specs.declared.tree.Sexpr.TheVariants as sexpr
 use Rattle.sexpr_text.specs.declared.token.Token.{Token}
 use Rattle.sexpr_text.specs.declared.token.Token.TheVariants.{Open, Close, Atom}
 use Rattle.sexpr_text.proofs.Soundness.{token_of, map-append}
-use Rattle.sexpr_text.proofs.Spelling.{Cases, by_cases, IsAtom, spelled-List, numeral_is_atom, decimal_is_atom, hex_is_atom, binary_is_atom, str_is_atom, symbol_is_atom, keyword_is_atom}
+use Rattle.sexpr_text.proofs.Spelling.{by_cases, IsAtom, spelled-List, numeral_is_atom, decimal_is_atom, hex_is_atom, binary_is_atom, str_is_atom, symbol_is_atom, keyword_is_atom}
 
 -- a tree is one token or a list
 abbrev pub View : Sexpr → Type 0
@@ -18,15 +18,15 @@ View tree = IsAtom tree ⊎ ((parts : List Sexpr) × (tree ≡ sexpr.List parts)
 
 pub view : (tree : Sexpr) → View tree
 view = by_cases View (record {
-    numeral = λ text. inl (numeral_is_atom text);
-    decimal = λ text. inl (decimal_is_atom text);
-    hex = λ text. inl (hex_is_atom text);
-    binary = λ text. inl (binary_is_atom text);
-    str = λ text. inl (str_is_atom text);
-    symbol = λ text. inl (symbol_is_atom text);
-    keyword = λ text. inl (keyword_is_atom text);
-    list = λ parts _. inr (parts, refl);
-  })
+  numeral = λ text. inl (numeral_is_atom text);
+  decimal = λ text. inl (decimal_is_atom text);
+  hex = λ text. inl (hex_is_atom text);
+  binary = λ text. inl (binary_is_atom text);
+  str = λ text. inl (str_is_atom text);
+  symbol = λ text. inl (symbol_is_atom text);
+  keyword = λ text. inl (keyword_is_atom text);
+  list = λ parts _. inr (parts, refl);
+})
 
 -- no tree's tokens begin another's
 abbrev pub IsOne : Sexpr → Type 0
@@ -37,18 +37,18 @@ list_before parts x = ap (λ ts. ts ++ x) (spelled-List parts) ∙ ap (λ ts. Op
 
 atom_one : (a : Sexpr) → IsAtom a → IsOne a
 atom_one a atom b x y is = elim (view b) [
-    | inl other ↦
-        let e : Atom a ∷ x ≡ Atom b ∷ y = ap (λ ts. ts ++ x) (sym atom) ∙ is ∙ ap (λ ts. ts ++ y) other in (cc, cc)
-    | inr list ↦
-        let e : Atom a ∷ x ≡ Open ∷ (flat_map spelled list.0 ++ Close ∷ y) = ap (λ ts. ts ++ x) (sym atom) ∙ is ∙ ap (λ tree. spelled tree ++ y) list.1 ∙ list_before list.0 y in cc
-  ]
+  | inl other ↦
+      let e : Atom a ∷ x ≡ Atom b ∷ y = ap (λ ts. ts ++ x) (sym atom) ∙ is ∙ ap (λ ts. ts ++ y) other in (cc, cc)
+  | inr list ↦
+      let e : Atom a ∷ x ≡ Open ∷ (flat_map spelled list.0 ++ Close ∷ y) = ap (λ ts. ts ++ x) (sym atom) ∙ is ∙ ap (λ tree. spelled tree ++ y) list.1 ∙ list_before list.0 y in cc
+]
 
 -- a tree's tokens don't begin with a closing bracket
 no_close : (tree : Sexpr) (x y : List Token) → Close ∷ x ≡ spelled tree ++ y → ⊥
 no_close tree x y is = elim (view tree) [
-    | inl atom ↦ let e : Close ∷ x ≡ Atom tree ∷ y = is ∙ ap (λ ts. ts ++ y) atom in cc
-    | inr list ↦ let e : Close ∷ x ≡ Open ∷ (flat_map spelled list.0 ++ Close ∷ y) = is ∙ ap (λ t. spelled t ++ y) list.1 ∙ list_before list.0 y in cc
-  ]
+  | inl atom ↦ let e : Close ∷ x ≡ Atom tree ∷ y = is ∙ ap (λ ts. ts ++ y) atom in cc
+  | inr list ↦ let e : Close ∷ x ≡ Open ∷ (flat_map spelled list.0 ++ Close ∷ y) = is ∙ ap (λ t. spelled t ++ y) list.1 ∙ list_before list.0 y in cc
+]
 
 parts_one : (ps : List Sexpr) → AllByRecursion IsOne ps → (qs : List Sexpr) (x y : List Token) → flat_map spelled ps ++ Close ∷ x ≡ flat_map spelled qs ++ Close ∷ y → (ps ≡ qs) × (x ≡ y)
 parts_one [] ones [] x y is = (refl, cc)
@@ -61,25 +61,25 @@ parts_one (p ∷ ps) ones (q ∷ qs) x y is =
 
 list_one : (parts : List Sexpr) → AllByRecursion IsOne parts → IsOne (sexpr.List parts)
 list_one parts ones b x y is = elim (view b) [
-    | inl atom ↦ let e : Open ∷ (flat_map spelled parts ++ Close ∷ x) ≡ Atom b ∷ y = sym (list_before parts x) ∙ is ∙ ap (λ ts. ts ++ y) atom in cc
-    | inr list ↦
-        let e : Open ∷ (flat_map spelled parts ++ Close ∷ x) ≡ Open ∷ (flat_map spelled list.0 ++ Close ∷ y) = sym (list_before parts x) ∙ is ∙ ap (λ t. spelled t ++ y) list.1 ∙ list_before list.0 y in
-        let f : flat_map spelled parts ++ Close ∷ x ≡ flat_map spelled list.0 ++ Close ∷ y = cc in
-        let one = parts_one parts ones list.0 x y f in
-        (ap sexpr.List one.0 ∙ sym list.1, one.1)
-  ]
+  | inl atom ↦ let e : Open ∷ (flat_map spelled parts ++ Close ∷ x) ≡ Atom b ∷ y = sym (list_before parts x) ∙ is ∙ ap (λ ts. ts ++ y) atom in cc
+  | inr list ↦
+      let e : Open ∷ (flat_map spelled parts ++ Close ∷ x) ≡ Open ∷ (flat_map spelled list.0 ++ Close ∷ y) = sym (list_before parts x) ∙ is ∙ ap (λ t. spelled t ++ y) list.1 ∙ list_before list.0 y in
+      let f : flat_map spelled parts ++ Close ∷ x ≡ flat_map spelled list.0 ++ Close ∷ y = cc in
+      let one = parts_one parts ones list.0 x y f in
+      (ap sexpr.List one.0 ∙ sym list.1, one.1)
+]
 
 pub one_tree : (a : Sexpr) → IsOne a
 one_tree = by_cases IsOne (record {
-    numeral = λ text. atom_one _ (numeral_is_atom text);
-    decimal = λ text. atom_one _ (decimal_is_atom text);
-    hex = λ text. atom_one _ (hex_is_atom text);
-    binary = λ text. atom_one _ (binary_is_atom text);
-    str = λ text. atom_one _ (str_is_atom text);
-    symbol = λ text. atom_one _ (symbol_is_atom text);
-    keyword = λ text. atom_one _ (keyword_is_atom text);
-    list = list_one;
-  })
+  numeral = λ text. atom_one _ (numeral_is_atom text);
+  decimal = λ text. atom_one _ (decimal_is_atom text);
+  hex = λ text. atom_one _ (hex_is_atom text);
+  binary = λ text. atom_one _ (binary_is_atom text);
+  str = λ text. atom_one _ (str_is_atom text);
+  symbol = λ text. atom_one _ (symbol_is_atom text);
+  keyword = λ text. atom_one _ (keyword_is_atom text);
+  list = list_one;
+})
 
 one_begin : (own : List Placed) (m n : ℕ) → BeginAt own m → BeginAt own n → m ≡ n
 one_begin [] m n a b = absurd a
@@ -101,9 +101,9 @@ length-map (p ∷ own) = ap suc (length-map own)
 -- two forms at the front of the same tokens have the same of them
 same_own : (own rest other more : List Placed) → own ++ rest ≡ other ++ more → length own ≡ length other → (own ≡ other) × (rest ≡ more)
 same_own own rest other more is len = (
-    sym (take-append_seam own rest) ∙ ap (λ n. take n (own ++ rest)) len ∙ ap (take (length other)) is ∙ take-append_seam other more,
-    sym (drop-append_seam own rest) ∙ ap (λ n. drop n (own ++ rest)) len ∙ ap (drop (length other)) is ∙ drop-append_seam other more,
-  )
+  sym (take-append_seam own rest) ∙ ap (λ n. take n (own ++ rest)) len ∙ ap (take (length other)) is ∙ take-append_seam other more,
+  sym (drop-append_seam own rest) ∙ ap (λ n. drop n (own ++ rest)) len ∙ ap (drop (length other)) is ∙ drop-append_seam other more,
+)
 
 same_form : (f g : Form) → f.tree ≡ g.tree → f.from ≡ g.from → f.to ≡ g.to → f ≡ g
 same_form f g tree from to =
@@ -118,7 +118,7 @@ one_spelling tokens (f ∷ fs) [] a b = absurd (no_form a.0 a.1 f a.3 (sym b ∙
 one_spelling tokens (f ∷ fs) (g ∷ gs) a b =
     let both_ways : a.0 ++ a.1 ≡ b.0 ++ b.1 = sym a.2 ∙ b.2 in
     let spelled_same : spelled f.tree ++ map token_of a.1 ≡ spelled g.tree ++ map token_of b.1 =
-      ap (λ ts. ts ++ map token_of a.1) (sym a.3.tree) ∙ sym (map-append a.0 a.1) ∙ ap (map token_of) both_ways ∙ map-append b.0 b.1 ∙ ap (λ ts. ts ++ map token_of b.1) b.3.tree in
+    ap (λ ts. ts ++ map token_of a.1) (sym a.3.tree) ∙ sym (map-append a.0 a.1) ∙ ap (map token_of) both_ways ∙ map-append b.0 b.1 ∙ ap (λ ts. ts ++ map token_of b.1) b.3.tree in
     let trees : f.tree ≡ g.tree = (one_tree f.tree g.tree (map token_of a.1) (map token_of b.1) spelled_same).0 in
     let lens : length a.0 ≡ length b.0 = sym (length-map a.0) ∙ ap length (a.3.tree ∙ ap spelled trees ∙ sym b.3.tree) ∙ length-map b.0 in
     let owns = same_own a.0 a.1 b.0 b.1 both_ways lens in

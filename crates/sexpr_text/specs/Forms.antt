@@ -1,9 +1,9 @@
-use Rattle.std.specs.Prelude.{◌≡◌, ℕ, List, [], ◌∷◌, ◌++◌, map, Option, None, Some, Result, Ok, Err}
+use Rattle.std.specs.Prelude.{◌≡◌, ℕ, List, [], ◌∷◌, ◌++◌, map, None, Some, Result, Ok, Err}
 use Rattle.std.specs.List.{flat_map}
 use Rattle.mbqi_values.specs.declared.fault.ReadError.{ReadError}
 use Rattle.mbqi_values.specs.declared.fault.ReadError.TheVariants.{Refused, Memory}
 use Rattle.mbqi_values.specs.declared.fault.Refusal.{Refusal}
-use Rattle.sexpr_text.specs.Lexis.{Placed, Lexed, lexed, tokens_of, first_fault}
+use Rattle.sexpr_text.specs.Lexis.{Placed, lexed, tokens_of, first_fault}
 use Rattle.sexpr_text.specs.declared.tree.Form.{Form}
 use Rattle.sexpr_text.specs.declared.tree.Sexpr.{Sexpr}
 use Rattle.sexpr_text.specs.declared.tree.Sexpr.TheVariants.{Numeral, Decimal, Hex, Binary, Str, Symbol, Keyword}

@@ -1,4 +1,4 @@
-use Rattle.std.specs.Prelude.{ℕ, ◌+◌, Bool, true, false, not, ◌&&◌, ◌||◌, ◌==◌, nat_lt, List, [], ◌∷◌, length, drop, take, slice_index, Option, None, Some, if◌then◌else◌}
+use Rattle.std.specs.Prelude.{ℕ, ◌+◌, Bool, not, ◌&&◌, ◌||◌, ◌==◌, nat_lt, List, [], ◌∷◌, length, drop, take, slice_index, Option, None, Some, if◌then◌else◌}
 use Rattle.std.specs.List.{list_all, position, position_or_len, before_first}
 use Rattle.std.specs.Char.{is_ascii_digit, is_ascii_hexdigit}
 use Rattle.mbqi_values.specs.declared.fault.FaultKind.{FaultKind}
@@ -8,7 +8,6 @@ use Rattle.sexpr_text.specs.declared.class.Class.{Class}
 use Rattle.sexpr_text.specs.declared.class.Class.TheVariants as class
 use Rattle.sexpr_text.specs.declared.tree.Sexpr.{Sexpr}
 use Rattle.sexpr_text.specs.declared.tree.Sexpr.TheVariants.{Numeral, Decimal, Hex, Binary, Str, Symbol, Keyword}
-use Rattle.sexpr_text.specs.declared.token.Token.{Token}
 use Rattle.sexpr_text.specs.declared.token.Token.TheVariants.{Open, Close, Atom}
 use Rattle.sexpr_text.specs.declared.token.Front.{Front}
 use Rattle.sexpr_text.specs.declared.token.Front.TheVariants as front
@@ -81,7 +80,7 @@ number_front word =
 unfoldable pub radix_front : (ℕ → Bool) → Sexpr → List ℕ → Front
 radix_front is_digit tree word =
     if is_digit (slice_index word 0) then
-        (if list_all is_digit word then atom tree (length word + 2) else front.Fault BadNumeral 0)
+    (if list_all is_digit word then atom tree (length word + 2) else front.Fault BadNumeral 0)
     else front.Fault BadByte 0
 
 -- A hexadecimal or binary literal, behind its `#`.

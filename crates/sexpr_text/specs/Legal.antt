@@ -1,4 +1,4 @@
-use Rattle.std.specs.Prelude.{ℕ, Bool, ◌&&◌, List, length, nat_lt}
+use Rattle.std.specs.Prelude.{Bool, ◌&&◌, length, nat_lt}
 use Rattle.std.specs.List.{list_all}
 use Rattle.std.specs.Char.{is_ascii_hexdigit}
 use Rattle.sexpr_text.specs.Bytes.{is_content, is_quoted_content, is_symbol_byte}

@@ -1,4 +1,4 @@
-use Rattle.std.specs.Prelude.{◌≡◌, ℕ, zero, suc, ◌+◌, ◌-◌, ◌==◌, List, [], ◌∷◌, ◌++◌, Option, None, Some, if◌then◌else◌}
+use Rattle.std.specs.Prelude.{ℕ, zero, suc, ◌+◌, ◌-◌, ◌==◌, List, [], ◌∷◌, Option, None, Some, if◌then◌else◌}
 use Rattle.mbqi_values.specs.declared.fault.FaultKind.TheVariants.{Unopened, Unclosed, TooDeep}
 use Rattle.mbqi_values.specs.declared.fault.Refusal.{Refusal}
 use Rattle.sexpr_text.specs.Front.{front_of}

@@ -1,9 +1,9 @@
-use Rattle.std.specs.Prelude.{◌≡◌, ℕ, ◌==◌, List, [], ◌∷◌, ◌++◌, length, Option, None, Some, Result, Ok, Err, if◌then◌else◌}
+use Rattle.std.specs.Prelude.{◌≡◌, ℕ, ◌==◌, List, [], ◌∷◌, ◌++◌, length, Result, Ok, Err, if◌then◌else◌}
 use Rattle.mbqi_values.specs.declared.fault.FaultKind.TheVariants.{Unopened, Unclosed, TooDeep}
 use Rattle.mbqi_values.specs.declared.fault.ReadError.{ReadError}
 use Rattle.mbqi_values.specs.declared.fault.ReadError.TheVariants.{Refused, Memory}
 use Rattle.mbqi_values.specs.declared.fault.Refusal.{Refusal}
-use Rattle.sexpr_text.specs.Lexis.{Placed, Lexed, Ended, Broken, Next, open_limit}
+use Rattle.sexpr_text.specs.Lexis.{Lexed, Ended, Broken, Next, open_limit}
 use Rattle.sexpr_text.specs.declared.reader.Reader.{Reader}
 use Rattle.sexpr_text.specs.declared.token.Token.{Token}
 use Rattle.sexpr_text.specs.declared.token.Token.TheVariants.{Open, Close, Atom}

@@ -14,13 +14,11 @@ pub fn one_answer()
     ensures not_both { (bytes : List ℕ) (forms : List Form) (refusal : Refusal) → HaveForms bytes forms → IsRefused bytes refusal → ⊥ }
     ensures one_list { (bytes : List ℕ) (these those : List Form) → HaveForms bytes these → HaveForms bytes those → these ≡ those }
     ensures one_refusal { (bytes : List ℕ) (this that : Refusal) → IsRefused bytes this → IsRefused bytes that → this ≡ that }
-{
-}
+{}
 
 /// What [`crate::write_form`] writes is read as the tree, and so is each tree of a text of several, with a line
 /// feed behind each, where the atoms have texts of their kinds and the brackets are within the limit.
 pub fn written_is_read()
     ensures tree { (tree : Sexpr) → IsTrue (is_legal tree) → IsShallow tree → HaveForms (text_of tree) (forms_at 0 (tree ∷ [])) }
     ensures lines { (trees : List Sexpr) → All (λ tree. IsTrue (is_legal tree)) trees → All IsShallow trees → HaveForms (lines_of trees) (forms_at 0 trees) }
-{
-}
+{}

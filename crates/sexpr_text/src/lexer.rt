@@ -87,7 +87,13 @@ fn atom(tree: Sexpr, len: usize) -> Front
 
 /// What opens with one byte, goes on with a content of `len` bytes, and means the tree. `stray` is the place in
 /// the content of the first byte that isn't allowed there, and `missing` the fault where nothing closes it.
-fn enclosed(stray: Option<usize>, is_closed: bool, missing: FaultKind, tree: Sexpr, len: usize) -> Front
+fn enclosed(
+    stray: Option<usize>,
+    is_closed: bool,
+    missing: FaultKind,
+    tree: Sexpr,
+    len: usize,
+) -> Front
     requires strays { ForSome stray (λ at. at < len) }
     requires fits { len + 2 < 2 ^ 64 }
     ensures value { result ≡ enclosed_by stray is_closed missing tree len }
@@ -218,7 +224,7 @@ fn number_front(alloc: Global, word: &[u8]) -> Result<Front, AllocError>
 
 /// Whether the word is a numeral.
 #[tactic(auto, unfolding(crate::specs::Front::is_numeral))]
-pub fn is_numeral(word: &[u8]) -> bool
+fn is_numeral(word: &[u8]) -> bool
     ensures { result ≡ is_numeral word.now }
 {
     !word.is_empty() && is_all_digits(word) && (word[0] != b'0' || word.len() == 1)
@@ -290,7 +296,10 @@ fn binary_front(alloc: Global, word: &[u8]) -> Result<Front, AllocError>
     if !is_all_binary_digits(word) {
         return Ok(Front::Fault(FaultKind::BadNumeral, 0));
     }
-    Ok(atom(Sexpr::Binary(Text::from_slice(alloc, word)?), word.len() + 2))
+    Ok(atom(
+        Sexpr::Binary(Text::from_slice(alloc, word)?),
+        word.len() + 2,
+    ))
 }
 
 fn is_all_hex_digits(word: &[u8]) -> bool
@@ -321,7 +330,10 @@ fn keyword_front(alloc: Global, word: &[u8]) -> Result<Front, AllocError>
     if word.is_empty() {
         return Ok(Front::Fault(FaultKind::BadByte, 0));
     }
-    Ok(atom(Sexpr::Keyword(Text::from_slice(alloc, word)?), word.len() + 1))
+    Ok(atom(
+        Sexpr::Keyword(Text::from_slice(alloc, word)?),
+        word.len() + 1,
+    ))
 }
 
 /// A symbol without bars.

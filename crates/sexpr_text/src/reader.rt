@@ -46,7 +46,8 @@ fn read_all(alloc: Global, bytes: &[u8]) -> Result<Forms, ReadError>
     reader.finish()
 }
 
-/// What has been read of a text: its forms, the place of its outermost open bracket where there is one, and the trees behind each open bracket.
+/// What has been read of a text: its forms, the place of its outermost open bracket where there is one, and the
+/// trees behind each open bracket.
 #[derive(Drop)]
 struct Reader {
     forms: Forms,

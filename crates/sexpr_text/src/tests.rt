@@ -17,7 +17,12 @@ const fn at(from: usize, to: usize, text: &'static [u8]) -> Expected {
 }
 
 /// Asserts the forms of a text.
-fn assert_forms<R: Abort>(rt: &R, alloc: Global, text: &[u8], expected: &[Expected]) -> Result<(), Fail> {
+fn assert_forms<R: Abort>(
+    rt: &R,
+    alloc: Global,
+    text: &[u8],
+    expected: &[Expected],
+) -> Result<(), Fail> {
     let forms = read_forms(alloc, text)?;
     assert_eq!(rt; forms.len(), expected.len(), "{text:?}");
     for (form, one) in forms.as_slice().iter().zip(expected) {
@@ -47,26 +52,68 @@ fn texts_have_their_forms(rt: HostRuntime) -> Result<(), Fail> {
     let alloc = rt.alloc();
     assert_forms(&rt, alloc, b"", &[])?;
     assert_forms(&rt, alloc, b" \t\r\n; ( \" | \xff\r )\n;", &[])?;
-    assert_forms(&rt, alloc, b"0 17 3.50 #xFa #b01 :1 a+b", &[
-        at(0, 1, b"0"), at(2, 4, b"17"), at(5, 9, b"3.50"), at(10, 14, b"#xFa"),
-        at(15, 19, b"#b01"), at(20, 22, b":1"), at(23, 26, b"a+b"),
-    ])?;
-    assert_forms(&rt, alloc, b"\"a\"\"b\" \"\" \"\"\"\"", &[
-        at(0, 6, b"\"a\"\"b\""), at(7, 9, b"\"\""), at(10, 14, b"\"\"\"\""),
-    ])?;
-    assert_forms(&rt, alloc, b"|a b| |ab| || |1| let", &[
-        at(0, 5, b"|a b|"), at(6, 10, b"ab"), at(11, 13, b"||"), at(14, 17, b"|1|"), at(18, 21, b"let"),
-    ])?;
-    assert_forms(&rt, alloc, b"( a (b) ; c\n ) c()", &[
-        at(0, 14, b"(a (b))"), at(15, 16, b"c"), at(16, 18, b"()"),
-    ])?;
-    assert_forms(&rt, alloc, b"a\"b\"1|c|:d:e;f\ng", &[
-        at(0, 1, b"a"), at(1, 4, b"\"b\""), at(4, 5, b"1"), at(5, 8, b"c"),
-        at(8, 10, b":d"), at(10, 12, b":e"), at(15, 16, b"g"),
-    ])?;
-    assert_forms(&rt, alloc, b"\"\xc3\xa9\r\n\" |\xff\r\n|", &[
-        at(0, 6, b"\"\xc3\xa9\r\n\""), at(7, 12, b"|\xff\r\n|"),
-    ])?;
+    assert_forms(
+        &rt,
+        alloc,
+        b"0 17 3.50 #xFa #b01 :1 a+b",
+        &[
+            at(0, 1, b"0"),
+            at(2, 4, b"17"),
+            at(5, 9, b"3.50"),
+            at(10, 14, b"#xFa"),
+            at(15, 19, b"#b01"),
+            at(20, 22, b":1"),
+            at(23, 26, b"a+b"),
+        ],
+    )?;
+    assert_forms(
+        &rt,
+        alloc,
+        b"\"a\"\"b\" \"\" \"\"\"\"",
+        &[
+            at(0, 6, b"\"a\"\"b\""),
+            at(7, 9, b"\"\""),
+            at(10, 14, b"\"\"\"\""),
+        ],
+    )?;
+    assert_forms(
+        &rt,
+        alloc,
+        b"|a b| |ab| || |1| let",
+        &[
+            at(0, 5, b"|a b|"),
+            at(6, 10, b"ab"),
+            at(11, 13, b"||"),
+            at(14, 17, b"|1|"),
+            at(18, 21, b"let"),
+        ],
+    )?;
+    assert_forms(
+        &rt,
+        alloc,
+        b"( a (b) ; c\n ) c()",
+        &[at(0, 14, b"(a (b))"), at(15, 16, b"c"), at(16, 18, b"()")],
+    )?;
+    assert_forms(
+        &rt,
+        alloc,
+        b"a\"b\"1|c|:d:e;f\ng",
+        &[
+            at(0, 1, b"a"),
+            at(1, 4, b"\"b\""),
+            at(4, 5, b"1"),
+            at(5, 8, b"c"),
+            at(8, 10, b":d"),
+            at(10, 12, b":e"),
+            at(15, 16, b"g"),
+        ],
+    )?;
+    assert_forms(
+        &rt,
+        alloc,
+        b"\"\xc3\xa9\r\n\" |\xff\r\n|",
+        &[at(0, 6, b"\"\xc3\xa9\r\n\""), at(7, 12, b"|\xff\r\n|")],
+    )?;
     Ok(())
 }
 

@@ -1,4 +1,3 @@
-
 use mbqi_values::sequence::{Sequence, Text};
 use sqlite_items::Items;
 

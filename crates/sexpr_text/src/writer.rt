@@ -66,7 +66,12 @@ fn append_parts(parts: &[Sexpr], into: &mut Vec<u8>) -> Result<(), AllocError>
 }
 
 /// Appends three pieces.
-fn append_pieces(front: &[u8], text: &[u8], back: &[u8], into: &mut Vec<u8>) -> Result<(), AllocError>
+fn append_pieces(
+    front: &[u8],
+    text: &[u8],
+    back: &[u8],
+    into: &mut Vec<u8>,
+) -> Result<(), AllocError>
     ensures { OnOk result (into.new.items ≡ into.old.items ++ (front.now ++ (text.now ++ back.now))) }
 {
     into.extend_from_slice(front)?;

@@ -1,0 +1,3 @@
+pub mod FalseClauses
+pub mod Resolution
+pub mod Trails

@@ -1,0 +1,4 @@
+pub mod Clauses
+pub mod Resolvent
+pub mod Searched
+pub mod Trail

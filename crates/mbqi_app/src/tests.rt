@@ -1,0 +1,258 @@
+//! What no clause says: worked scripts with their answers, the lines on `err`, the list of the reserved words,
+//! and that a call succeeds where memory is ample.
+
+ghost use Rattle.std.specs.Prelude.{◌≡◌, ◌<◌};
+
+use crate::run;
+use mbqi_edge::{FetchFault, MemoryShelf, MemorySink, Shelf};
+use mbqi_values::{FaultKind, Numbers, Refusal, Status, Steps, Text, Texts};
+use std::alloc::{AllocError, Global};
+use std::marker::Brand;
+use std::sync::ledger::{Blank, Ledger};
+use std::test::Fail;
+
+/// The one file of the shelves here, and the words that ask for it.
+const FILE: &str = "script";
+
+const SOLVE: &str = "solve script";
+
+/// Room for each text of these tests.
+const AMPLE: usize = 1000;
+
+/// The calls of a shelf that fail: none, or the first.
+const NONE: &[usize] = &[];
+
+const FIRST: &[usize] = &[0];
+
+/// A script without anything but the question, and its answer.
+const QUESTION: &str = "(check-sat)";
+
+const EMPTY_MODEL: &str = "sat\n(model 1\n)\n";
+
+/// A script with each declaration: two constants, so three elements, each of them a knot of each argument.
+const DECLARATIONS: &str = "; one sort
+(declare-sort S 0)
+(declare-const c S)
+(declare-fun p (S) Bool)
+(declare-const d S)
+(declare-fun q (S S) Bool)
+(check-sat)
+";
+
+const DECLARED_MODEL: &str = "sat
+(model 1
+(sort S 3)
+(fun c () () @0)
+(fun p ((@0 @1 @2)) () false)
+(fun d () () @1)
+(fun q ((@0 @1 @2) (@0 @1 @2)) () false)
+)
+";
+
+/// The words that SMT-LIB 2.6 reserves, those of its commands, and the symbols of the theories Core, Ints and
+/// ArraysEx, written down a second time.
+const RESERVED: &str = "_ ! as let exists forall match par BINARY DECIMAL HEXADECIMAL NUMERAL STRING
+    set-logic set-info set-option get-model get-info get-unsat-core echo declare-sort declare-const declare-fun
+    define-fun assert check-sat exit define-sort declare-datatypes get-value get-proof check-sat-assuming reset
+    push pop true false not and or xor ite distinct select store default Int Bool Array div mod abs
+    => = + - * <= < >= >";
+
+/// What a call of `run` gave, and what it left.
+#[derive(Drop)]
+struct Call {
+    status: Status,
+    shelf: MemoryShelf,
+    out: MemorySink,
+    err: MemorySink,
+}
+
+/// A shelf of one file, whose listed calls fail.
+fn shelf_of(alloc: Global, script: &str, failing: &[usize]) -> Result<MemoryShelf, AllocError> {
+    let mut names = Texts::new(alloc);
+    names.push(Text::from_slice(alloc, FILE.as_bytes())?)?;
+    let mut files = Texts::new(alloc);
+    files.push(Text::from_slice(alloc, script.as_bytes())?)?;
+    let failing = Numbers::from_slice(alloc, failing)?;
+    Ok(MemoryShelf::new(alloc, names, files, failing))
+}
+
+/// A sink of a few bytes a call.
+fn sink_of(alloc: Global, capacity: usize) -> Result<MemorySink, AllocError> {
+    MemorySink::new(alloc, capacity, 7, Numbers::new(alloc))
+}
+
+fn words_of(alloc: Global, line: &str) -> Result<Vec<String>, AllocError> {
+    let mut words = Vec::new(alloc);
+    for word in line.split_whitespace() {
+        words.push(String::from_str(alloc, word)?)?;
+    }
+    Ok(words)
+}
+
+/// `run` with a counter of its own.
+fn run_counted<L: Ledger>(
+    alloc: Global,
+    words: &[String],
+    shelf: &mut MemoryShelf,
+    out: &mut MemorySink,
+    err: &mut MemorySink,
+    blank: Blank,
+) -> Status
+    requires name { blank.name ≡ L.name }
+    requires parts { blank.parts ≡ L.parts }
+    requires some { 0 < blank.parts }
+{
+    let mut steps = Steps::<L>::new(blank);
+    run(alloc, words, shelf, out, err, &mut steps)
+}
+
+/// `run` with these words, over the shelf and an `out` of this capacity.
+fn call_run(
+    alloc: Global,
+    words: &str,
+    mut shelf: MemoryShelf,
+    capacity: usize,
+) -> Result<Call, AllocError> {
+    let words = words_of(alloc, words)?;
+    let mut out = sink_of(alloc, capacity)?;
+    let mut err = sink_of(alloc, AMPLE)?;
+    let status = run_counted::<Brand>(
+        alloc,
+        words.as_slice(),
+        &mut shelf,
+        &mut out,
+        &mut err,
+        Blank::new(1),
+    );
+    Ok(Call {
+        status,
+        shelf,
+        out,
+        err,
+    })
+}
+
+// The shelf would fail at its second call, so the file is asked once.
+#[test]
+fn scripts_have_models(rt: HostRuntime) -> Result<(), Fail> {
+    let alloc = rt.alloc();
+    let rows = [
+        (QUESTION, EMPTY_MODEL),
+        ("", EMPTY_MODEL),
+        (DECLARATIONS, DECLARED_MODEL),
+        ("(declare-sort S 0)", "sat\n(model 1\n(sort S 1)\n)\n"),
+    ];
+    for (script, model) in rows {
+        let mut call = call_run(alloc, SOLVE, shelf_of(alloc, script, &[1])?, AMPLE)?;
+        assert_eq!(rt; call.status, Status::Sat, "{script}");
+        assert_eq!(rt; call.out.taken(), model.as_bytes(), "{script}");
+        assert!(rt; call.err.taken().is_empty(), "{script}");
+        let next = call.shelf.fetch(alloc, FILE, AMPLE, &mut Vec::new(alloc));
+        assert_eq!(rt; next, Err(FetchFault::Failed), "{script}");
+    }
+    Ok(())
+}
+
+#[test]
+fn other_words_are_no_command(rt: HostRuntime) -> Result<(), Fail> {
+    let alloc = rt.alloc();
+    for words in [
+        "solve",
+        "solve --depth 65 f",
+        "solve --depth 02 f",
+        "make sorted 0",
+        "",
+    ] {
+        let call = call_run(alloc, words, shelf_of(alloc, QUESTION, &[])?, AMPLE)?;
+        assert_eq!(rt; call.status, Status::Words, "{words}");
+        assert!(rt; call.out.taken().is_empty(), "{words}");
+        assert_eq!(rt;
+            call.err.taken(),
+            b"mbqi: these words are no command\n".as_slice(),
+            "{words}"
+        );
+    }
+    Ok(())
+}
+
+// The answer into a sink of ten bytes, a shelf that fails at once, and a file that isn't there.
+#[test]
+fn faults_have_their_lines(rt: HostRuntime) -> Result<(), Fail> {
+    let alloc = rt.alloc();
+    let unwritten = "mbqi: the answer cannot be written\n";
+    let unread = "mbqi: the file cannot be read\n";
+    let rows = [
+        (
+            SOLVE,
+            NONE,
+            10,
+            Status::WriteFault,
+            "sat\n(model",
+            unwritten,
+        ),
+        (SOLVE, FIRST, AMPLE, Status::ReadFault, "", unread),
+        ("solve other", NONE, AMPLE, Status::ReadFault, "", unread),
+    ];
+    for (words, failing, capacity, status, taken, told) in rows {
+        let call = call_run(alloc, words, shelf_of(alloc, QUESTION, failing)?, capacity)?;
+        assert_eq!(rt; call.status, status, "{words}");
+        assert_eq!(rt; call.out.taken(), taken.as_bytes(), "{words}");
+        assert_eq!(rt; call.err.taken(), told.as_bytes(), "{words}");
+    }
+    Ok(())
+}
+
+/// Whether `run` refuses the script at its start, says so, and writes nothing.
+fn is_outside(alloc: Global, script: &str) -> Result<bool, AllocError> {
+    let refusal = Refusal {
+        at: 0,
+        kind: FaultKind::Unsupported,
+    };
+    let call = call_run(alloc, SOLVE, shelf_of(alloc, script, NONE)?, AMPLE)?;
+    let is_told = call.err.taken() == b"mbqi: refused at 0: Unsupported\n".as_slice();
+    let is_silent = call.out.taken().is_empty();
+    Ok(call.status == Status::ScriptRefused(refusal) && is_told && is_silent)
+}
+
+#[test]
+fn scripts_outside_the_profile_are_refused(rt: HostRuntime) -> Result<(), Fail> {
+    let scripts = [
+        "(declare-const x Int)",
+        "(declare-const c S)",
+        "(declare-sort S 1)",
+        "(declare-sort S)",
+        "(declare-sort S 0)(declare-sort T 0)",
+        "(declare-sort S 0)(declare-const c S)(declare-sort T 0)",
+        "(declare-sort S 0)(declare-const c S)(declare-const c S)",
+        "(declare-sort S 0)(declare-const S S)",
+        "(declare-sort @S 0)",
+        "(declare-sort .S 0)",
+        "(declare-sort |S T| 0)",
+        "(declare-sort \"S\" 0)",
+        "(declare-sort S 0)(declare-fun p () Bool)",
+        "(declare-sort S 0)(declare-fun f (S) S)",
+        "(declare-sort S 0)(declare-fun p (S) Bool)(assert (forall ((x S)) (p x)))",
+        "(check-sat 0)",
+        "(check-sat)(check-sat)",
+        "(check-sat)(declare-sort S 0)",
+        "check-sat",
+        "()",
+        "(check-sat",
+        "(check-sat))",
+        "#(check-sat)",
+    ];
+    for script in scripts {
+        assert!(rt; is_outside(rt.alloc(), script)?, "{script}");
+    }
+    Ok(())
+}
+
+#[test]
+fn reserved_words_are_no_names(rt: HostRuntime) -> Result<(), Fail> {
+    let alloc = rt.alloc();
+    for word in RESERVED.split_whitespace() {
+        let script = format!(in alloc; "(declare-sort {word} 0)")?;
+        assert!(rt; is_outside(alloc, script.as_str())?, "{word}");
+    }
+    Ok(())
+}
