@@ -13,6 +13,7 @@ pub mod rule;
 pub mod same;
 pub mod script;
 pub mod sort;
+pub mod store;
 pub mod term;
 pub mod term_id;
 
@@ -30,5 +31,6 @@ pub use same::{
 };
 pub use script::{Assertion, Assertions, Function, Functions, Script};
 pub use sort::{Binder, Binders, Plain, Sort, Sorts};
+pub use store::{Head, Lists, Node, TermIds, TermStore};
 pub use term::{ArrayTerm, ArrayTerms, MapOp, Symbol, Term, Terms};
 pub use term_id::TermId;

@@ -1,5 +1,8 @@
 //! Sorts and the variables that have them.
 
+ghost use Rattle.std.specs.Prelude.{◌≡◌};
+ghost use Rattle.mbqi_terms.specs.Sort.{plain_of, sort_of_plain, index_of, element_of};
+
 use mbqi_values::Sequence;
 
 /// A list of sorts, in order.
@@ -33,4 +36,51 @@ pub enum Sort {
 pub struct Binder {
     pub place: usize,
     pub sort: Sort,
+}
+
+impl Plain {
+    /// The same as a sort.
+    pub fn sort(self) -> Sort
+        ensures { result ≡ sort_of_plain self }
+    {
+        match self {
+            Plain::Truth => Sort::Truth,
+            Plain::Int => Sort::Int,
+            Plain::Elem(sort) => Sort::Elem(sort),
+        }
+    }
+}
+
+impl Sort {
+    /// The same as a part of an array: none for an array sort.
+    pub fn as_plain(self) -> Option<Plain>
+        ensures { result ≡ plain_of self }
+    {
+        match self {
+            Sort::Truth => Some(Plain::Truth),
+            Sort::Int => Some(Plain::Int),
+            Sort::Elem(sort) => Some(Plain::Elem(sort)),
+            Sort::Array(_, _) => None,
+        }
+    }
+
+    /// The sort of the indices: none where it is no array sort.
+    pub fn index(self) -> Option<Sort>
+        ensures { result ≡ index_of self }
+    {
+        match self {
+            Sort::Array(index, _) => Some(index.sort()),
+            _ => None,
+        }
+    }
+
+    /// The sort of the elements: none where it is no array sort.
+    pub fn element(self) -> Option<Sort>
+        ensures { result ≡ element_of self }
+    {
+        match self {
+            Sort::Array(_, element) => Some(element.sort()),
+            _ => None,
+        }
+    }
 }

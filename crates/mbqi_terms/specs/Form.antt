@@ -1,0 +1,43 @@
+-- Which terms are in form over lists of functions, Skolem symbols and arrays (this project's own).
+use Rattle.std.specs.Prelude.{◌≡◌, ◌≢◌, ℤ, pos, List, [], ◌∷◌, Option, Some, None, IfSome, IsSome, Contains}
+use Rattle.std.specs.List.{AllZip}
+use Rattle.std.specs.Option.{option_map}
+use Rattle.mbqi_terms.specs.declared.sort.Sort.{Sort}
+use Rattle.mbqi_terms.specs.declared.sort.Sort.TheVariants.{Int}
+use Rattle.mbqi_terms.specs.declared.arrays.ArrayPair.{ArrayPair}
+use Rattle.mbqi_terms.specs.declared.store.lists.Lists.{Lists}
+use Rattle.mbqi_terms.specs.declared.term.ArrayTerm.TheOpen.{Symbol-F, Term-F}
+use Rattle.mbqi_terms.specs.declared.term.ArrayTerm.{ArrayTerm}
+use Rattle.mbqi_terms.specs.declared.term.Symbol.{Symbol, out-Symbol}
+use Rattle.mbqi_terms.specs.declared.term.Term.{Term, out-Term}
+use Rattle.mbqi_terms.specs.Lists.{symbol_layer_places, index_sort, element_sort, sort_of_term}
+use Rattle.mbqi_terms.specs.Tree.{Layer, IsBase, IsPart}
+
+-- A term in the place of a sort: a variable, or a term of that sort.
+abbrev pub Suits : Lists → Sort → Term → Type 0
+Suits l sort t = IfSome (sort_of_term l t) (λ own. own ≡ sort)
+
+-- As many arguments as there are places, each in a place of its sort. Where the lists have no places, there are none.
+abbrev pub FitPlaces : Lists → Option (List Sort) → List Term → Type 0
+FitPlaces l None ts = ⊥
+FitPlaces l (Some sorts) ts = AllZip (Suits l) sorts ts
+
+-- A difference index is of a listed pair.
+abbrev pub IsListed : Lists → Symbol-F ArrayTerm Symbol Term → Type 0
+IsListed l (Symbol-F.Diff a b) = Contains l.arrays.atoms (record { left = a; right = b })
+IsListed l symbol = Unit {0}
+
+-- One level of a term is in form: a sum is of an integer term that is no numeral and no sum, with a number that isn't 0; a symbol has
+-- its arguments by number and sort; an array term that is read, or whose default is named, is listed and has the sorts of an array.
+abbrev pub IsLayerInForm : Lists → Layer → Type 0
+IsLayerInForm l (Term-F.Num n) = Unit {0}
+IsLayerInForm l (Term-F.Plus t n) = IsBase (out-Term t) × (n ≢ pos 0) × Suits l Int t
+IsLayerInForm l (Term-F.Var k) = Unit {0}
+IsLayerInForm l (Term-F.Truth b) = Unit {0}
+IsLayerInForm l (Term-F.Apply f ts) = FitPlaces l (symbol_layer_places l (out-Symbol f)) ts × IsListed l (out-Symbol f)
+IsLayerInForm l (Term-F.Read a i) = Contains l.arrays.terms a × FitPlaces l (option_map (λ sort. sort ∷ []) (index_sort l a)) (i ∷ [])
+IsLayerInForm l (Term-F.Default a) = Contains l.arrays.terms a × IsSome (element_sort l a)
+
+-- Each part of the term is in form.
+abbrev pub IsTermInForm : Lists → Term → Type 0
+IsTermInForm l t = (part : Term) → IsPart part t → IsLayerInForm l (out-Term part)

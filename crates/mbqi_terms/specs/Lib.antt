@@ -1,0 +1,6 @@
+pub mod Distinct
+pub mod Form
+pub mod Lists
+pub mod Sort
+pub mod Store
+pub mod Tree
