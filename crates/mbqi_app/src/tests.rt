@@ -8,6 +8,7 @@ use mbqi_edge::{FetchFault, MemoryShelf, MemorySink, Shelf};
 use mbqi_values::{FaultKind, Numbers, Refusal, Status, Steps, Text, Texts};
 use std::alloc::{AllocError, Global};
 use std::marker::Brand;
+use std::process::Abort;
 use std::sync::ledger::{Blank, Ledger};
 use std::test::Fail;
 
@@ -18,11 +19,6 @@ const SOLVE: &str = "solve script";
 
 /// Room for each text of these tests.
 const AMPLE: usize = 1000;
-
-/// The calls of a shelf that fail: none, or the first.
-const NONE: &[usize] = &[];
-
-const FIRST: &[usize] = &[0];
 
 /// A script without anything but the question, and its answer.
 const QUESTION: &str = "(check-sat)";
@@ -132,6 +128,13 @@ fn call_run(
     })
 }
 
+/// Asserts how a call ended: its status, and what `out` and `err` took.
+fn assert_ended(rt: &impl Abort, call: &Call, status: Status, taken: &str, told: &str) {
+    assert_eq!(rt; call.out.taken(), taken.as_bytes());
+    assert_eq!(rt; call.err.taken(), told.as_bytes());
+    assert_eq!(rt; call.status, status);
+}
+
 // The shelf would fail at its second call, so the file is asked once.
 #[test]
 fn scripts_have_models(rt: HostRuntime) -> Result<(), Fail> {
@@ -144,9 +147,7 @@ fn scripts_have_models(rt: HostRuntime) -> Result<(), Fail> {
     ];
     for (script, model) in rows {
         let mut call = call_run(alloc, SOLVE, shelf_of(alloc, script, &[1])?, AMPLE)?;
-        assert_eq!(rt; call.status, Status::Sat, "{script}");
-        assert_eq!(rt; call.out.taken(), model.as_bytes(), "{script}");
-        assert!(rt; call.err.taken().is_empty(), "{script}");
+        assert_ended(&rt, &call, Status::Sat, model, "");
         let next = call.shelf.fetch(alloc, FILE, AMPLE, &mut Vec::new(alloc));
         assert_eq!(rt; next, Err(FetchFault::Failed), "{script}");
     }
@@ -156,21 +157,15 @@ fn scripts_have_models(rt: HostRuntime) -> Result<(), Fail> {
 #[test]
 fn other_words_are_no_command(rt: HostRuntime) -> Result<(), Fail> {
     let alloc = rt.alloc();
+    let told = "mbqi: these words are no command\n";
     for words in [
         "solve",
         "solve --depth 65 f",
         "solve --depth 02 f",
         "make sorted 0",
-        "",
     ] {
         let call = call_run(alloc, words, shelf_of(alloc, QUESTION, &[])?, AMPLE)?;
-        assert_eq!(rt; call.status, Status::Words, "{words}");
-        assert!(rt; call.out.taken().is_empty(), "{words}");
-        assert_eq!(rt;
-            call.err.taken(),
-            b"mbqi: these words are no command\n".as_slice(),
-            "{words}"
-        );
+        assert_ended(&rt, &call, Status::Words, "", told);
     }
     Ok(())
 }
@@ -181,23 +176,24 @@ fn faults_have_their_lines(rt: HostRuntime) -> Result<(), Fail> {
     let alloc = rt.alloc();
     let unwritten = "mbqi: the answer cannot be written\n";
     let unread = "mbqi: the file cannot be read\n";
-    let rows = [
-        (
-            SOLVE,
-            NONE,
-            10,
-            Status::WriteFault,
-            "sat\n(model",
-            unwritten,
-        ),
-        (SOLVE, FIRST, AMPLE, Status::ReadFault, "", unread),
-        ("solve other", NONE, AMPLE, Status::ReadFault, "", unread),
-    ];
-    for (words, failing, capacity, status, taken, told) in rows {
-        let call = call_run(alloc, words, shelf_of(alloc, QUESTION, failing)?, capacity)?;
-        assert_eq!(rt; call.status, status, "{words}");
-        assert_eq!(rt; call.out.taken(), taken.as_bytes(), "{words}");
-        assert_eq!(rt; call.err.taken(), told.as_bytes(), "{words}");
+    let full = call_run(alloc, SOLVE, shelf_of(alloc, QUESTION, &[])?, 10)?;
+    assert_ended(&rt, &full, Status::WriteFault, "sat\n(model", unwritten);
+    let failing = call_run(alloc, SOLVE, shelf_of(alloc, QUESTION, &[0])?, AMPLE)?;
+    assert_ended(&rt, &failing, Status::ReadFault, "", unread);
+    let missing = call_run(alloc, "solve other", shelf_of(alloc, QUESTION, &[])?, AMPLE)?;
+    assert_ended(&rt, &missing, Status::ReadFault, "", unread);
+    Ok(())
+}
+
+// With `rt try --test --fail-alloc N` an allocation fails: there is the whole answer, or nothing but the line.
+#[test]
+fn want_of_memory_takes_nothing(rt: HostRuntime) -> Result<(), Fail> {
+    let alloc = rt.alloc();
+    let call = call_run(alloc, SOLVE, shelf_of(alloc, DECLARATIONS, &[])?, AMPLE)?;
+    if call.status == Status::Memory {
+        assert_ended(&rt, &call, Status::Memory, "", "mbqi: out of memory\n");
+    } else {
+        assert_ended(&rt, &call, Status::Sat, DECLARED_MODEL, "");
     }
     Ok(())
 }
@@ -208,7 +204,7 @@ fn is_outside(alloc: Global, script: &str) -> Result<bool, AllocError> {
         at: 0,
         kind: FaultKind::Unsupported,
     };
-    let call = call_run(alloc, SOLVE, shelf_of(alloc, script, NONE)?, AMPLE)?;
+    let call = call_run(alloc, SOLVE, shelf_of(alloc, script, &[])?, AMPLE)?;
     let is_told = call.err.taken() == b"mbqi: refused at 0: Unsupported\n".as_slice();
     let is_silent = call.out.taken().is_empty();
     Ok(call.status == Status::ScriptRefused(refusal) && is_told && is_silent)
