@@ -1,1 +1,5 @@
 pub mod Lengths
+pub mod PlaceEnds
+pub mod PlaceRanks
+pub mod RowLookups
+pub mod RowOrder

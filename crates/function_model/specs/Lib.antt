@@ -1,5 +1,6 @@
 pub mod Fits
 pub mod Holds
 pub mod Lookup
+pub mod Rising
 pub mod TruthOf
 pub mod ValueOf

@@ -7,9 +7,11 @@
 
 mod look_up;
 pub mod model;
+mod rising;
 
 pub use look_up::projected;
 pub use model::{FunctionModel, Row, Rows, Table, TableName, Tables, ValueLists};
+pub use rising::{rising_rows, rows_fit};
 
 #[cfg(test)]
 mod tests;

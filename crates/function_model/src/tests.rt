@@ -1,4 +1,4 @@
-use crate::{Row, Table, TableName, projected};
+use crate::{Row, Table, TableName, projected, rising_rows};
 use mbqi_values::{Sequence, Value};
 use std::alloc::{AllocError, Global};
 
@@ -68,5 +68,23 @@ fn default_where_no_row_is(rt: HostRuntime) -> Result<(), AllocError> {
     };
     assert!(rt; table.look_up(&[]) == Value::Elem(2));
     assert!(rt; projected(&[], Value::Num(4)) == Value::Num(4));
+    Ok(())
+}
+
+#[test]
+fn rows_rise_and_the_repeated_one_goes(rt: HostRuntime) -> Result<(), AllocError> {
+    let mut rows = Vec::new(rt.alloc());
+    for place in [5, -2, 5] {
+        rows.push(Row {
+            places: values(rt.alloc(), [Value::Num(1), Value::Num(place)])?,
+            value: Value::Truth(true),
+        })?;
+    }
+    let mut places = Vec::new(rt.alloc());
+    for row in rising_rows(rows).as_slice() {
+        places.extend_from_slice(row.places.as_slice())?;
+    }
+    let expected = [Value::Num(1), Value::Num(-2), Value::Num(1), Value::Num(5)];
+    assert!(rt; places.as_slice() == expected.as_slice());
     Ok(())
 }

@@ -1,9 +1,9 @@
 -- A store that takes a node, or keeps its first ones, is sound.
-use Rattle.std.proofs.Common.{◌≡◌, ◌≢◌, ℕ, zero, suc, ◌+◌, ◌<◌, ◌≤◌, ◌⊎◌, inl, inr, List, [], ◌∷◌, ◌++◌, length, take, pos, Some, None, slice_get, refl, sym, ap, subst, ◌∙◌, arith, length-append, length-take}
-use Rattle.std.specs.List.{All, slice_index_or}
+use Rattle.std.proofs.Common.{◌≡◌, ◌≢◌, ℕ, zero, suc, ◌<◌, ◌≤◌, ◌⊎◌, inl, inr, List, [], ◌∷◌, ◌++◌, length, take, pos, Some, slice_get, refl, sym, ap, subst, ◌∙◌, arith, length-take}
+use Rattle.std.specs.List.{All}
 use Rattle.std.proofs.Math.Seq.{take-append_seam}
 use Rattle.std.proofs.lemmas.List.{take-append-le}
-use Rattle.std.proofs.lemmas.Option.{slice_get_within, slice_get-get_or}
+use Rattle.std.proofs.lemmas.Option.{slice_get_within}
 use Rattle.mbqi_terms.specs.declared.store.node.Node.{Node}
 use Rattle.mbqi_terms.specs.declared.term.Term.{Term}
 use Rattle.mbqi_terms.specs.declared.term_id.TermId.{TermId}
@@ -14,8 +14,8 @@ use Rattle.mbqi_terms.specs.declared.sort.Sort.TheVariants.{Int}
 use Rattle.mbqi_terms.specs.Form.{IsLayerInForm}
 use Rattle.mbqi_terms.specs.Lists.{layer_sort}
 use Rattle.mbqi_terms.specs.Tree.{Layer}
-use Rattle.mbqi_terms.specs.Store.{base_of_node, head_layer, Store, IsSound, IsNode, Interns, HasTree, HasShape, tree_of_node, node_tree, trees_of, first, with_node}
-use Rattle.mbqi_terms.proofs.Trees.{same_args, get_front, get_seam, get_take, take_get, length-trees, trees-push, trees-take, stored_tree}
+use Rattle.mbqi_terms.specs.Store.{base_of_node, head_layer, Store, IsSound, IsNode, Interns, HasShape, tree_of_node, trees_of, first}
+use Rattle.mbqi_terms.proofs.Trees.{same_args, get_seam, get_take, length-trees, trees-push, trees-take, stored_tree}
 use Rattle.mbqi_terms.proofs.Heads.{same_node}
 
 -- a place of the longer list is one of the list, or the last

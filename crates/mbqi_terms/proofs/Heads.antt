@@ -1,23 +1,22 @@
 -- A head and the terms that it is applied to, from the term that they make.
-use Rattle.std.proofs.Common.{◌≡◌, ◌≢◌, ℕ, zero, suc, ◌<◌, Bool, ℤ, pos, ◌+ℤ◌, List, [], ◌∷◌, length, map, Option, Some, None, slice_get, refl, sym, ap, subst, ◌∙◌, arith}
-use Rattle.std.specs.List.{All, slice_index_or}
+use Rattle.std.proofs.Common.{◌≡◌, ℕ, suc, ◌<◌, ℤ, pos, ◌+ℤ◌, List, [], ◌∷◌, length, map, Some, refl, sym, ap, subst, ◌∙◌, arith}
+use Rattle.std.specs.List.{All}
 use Rattle.std.proofs.lemmas.Option.{slice_get-get_or}
 use Rattle.mbqi_terms.specs.declared.arrays.ArrayPair.{ArrayPair}
 use Rattle.mbqi_terms.specs.declared.store.node.Head.{Head}
 use Rattle.mbqi_terms.specs.declared.store.node.Head.TheVariants.{Zero, Var, Truth, Declared, Skolem, Seed, Far, Diff, Read, Default}
 use Rattle.mbqi_terms.specs.declared.store.node.Node.{Node}
-use Rattle.mbqi_terms.specs.declared.term.ArrayTerm.{ArrayTerm}
 use Rattle.mbqi_terms.specs.declared.term.ArrayTerm.TheVariants as array
-use Rattle.mbqi_terms.specs.declared.term.ArrayTerm.TheOpen.{Term-F, Symbol-F}
-use Rattle.mbqi_terms.specs.declared.term.Symbol.{Symbol, out-Symbol}
+use Rattle.mbqi_terms.specs.declared.term.ArrayTerm.TheOpen.{Symbol-F}
+use Rattle.mbqi_terms.specs.declared.term.Symbol.{out-Symbol}
 use Rattle.mbqi_terms.specs.declared.term.Symbol.TheVariants as symbol
-use Rattle.mbqi_terms.specs.declared.term.Term.{Term, out-Term, roll-Term}
+use Rattle.mbqi_terms.specs.declared.term.Term.{Term, out-Term}
 use Rattle.mbqi_terms.specs.declared.term.Term.TheVariants as term
 use Rattle.mbqi_terms.specs.declared.term_id.TermId.{TermId}
 use Rattle.mbqi_terms.specs.Distinct.{AreDistinct}
 use Rattle.mbqi_terms.specs.declared.store.lists.Lists.{Lists}
 use Rattle.mbqi_terms.specs.Store.{array_at, pair_at, first_of, head_layer, applied, tree_at, node_tree, HasShape}
-use Rattle.mbqi_terms.specs.Tree.{Layer, IsBase, sum_of, number_of, plus_of, plus_at}
+use Rattle.mbqi_terms.specs.Tree.{number_of, plus_of, plus_at}
 use Rattle.mbqi_terms.proofs.Levels.{out-diff, out-num}
 use Rattle.mbqi_terms.proofs.Sums.{unsum, unsum-sum_of, unsum-num, number-unsum, plus-sum_of}
 

@@ -1,6 +1,5 @@
 -- One level of each term, symbol and array term that code makes.
 use Rattle.std.proofs.Common.{◌≡◌, ℕ, Bool, ℤ, List, sym, ap, ◌∙◌}
-use Rattle.mbqi_terms.specs.declared.sort.Sort.{Sort}
 use Rattle.mbqi_terms.specs.declared.term.ArrayTerm.{ArrayTerm}
 use Rattle.mbqi_terms.specs.declared.term.ArrayTerm.TheOpen.{Term-F, Symbol-F}
 use Rattle.mbqi_terms.specs.declared.term.ArrayTerm.TheViews.{out-roll-Term, out-roll-Symbol}

@@ -1,10 +1,9 @@
 -- Which head makes a term, by the lists.
-use Rattle.std.proofs.Common.{◌≡◌, ◌≢◌, ℕ, ◌<◌, List, [], ◌∷◌, length, Some, slice_get, refl, sym, ap, subst, ◌∙◌}
+use Rattle.std.proofs.Common.{◌≡◌, ◌≢◌, ℕ, List, Some, slice_get, refl, sym, ap, subst, ◌∙◌}
 use Rattle.std.proofs.lemmas.Option.{slice_get_within, slice_get-get_or, get_or_from_slice_get}
 use Rattle.mbqi_terms.specs.declared.arrays.ArrayPair.{ArrayPair}
 use Rattle.mbqi_terms.specs.declared.store.lists.Lists.{Lists}
-use Rattle.mbqi_terms.specs.declared.store.node.Head.{Head}
-use Rattle.mbqi_terms.specs.declared.store.node.Head.TheVariants.{Zero, Var, Truth, Declared, Skolem, Seed, Far, Diff, Read, Default}
+use Rattle.mbqi_terms.specs.declared.store.node.Head.TheVariants.{Diff, Read, Default}
 use Rattle.mbqi_terms.specs.declared.term.ArrayTerm.{ArrayTerm}
 use Rattle.mbqi_terms.specs.declared.term.ArrayTerm.TheVariants as array
 use Rattle.mbqi_terms.specs.declared.term.ArrayTerm.TheOpen.{Term-F}
@@ -12,7 +11,7 @@ use Rattle.mbqi_terms.specs.declared.term.Symbol.{Symbol}
 use Rattle.mbqi_terms.specs.declared.term.Symbol.TheVariants as symbol
 use Rattle.mbqi_terms.specs.declared.term.Term.{Term, out-Term}
 use Rattle.mbqi_terms.specs.declared.term.Term.TheVariants as term
-use Rattle.mbqi_terms.specs.Store.{array_at, pair_at, head_layer, HasShape, IsHeadOf, HasNoHead}
+use Rattle.mbqi_terms.specs.Store.{array_at, pair_at, IsHeadOf, HasNoHead}
 use Rattle.mbqi_terms.proofs.Heads.{same_diff}
 use Rattle.mbqi_terms.proofs.Levels.{out-read, out-default}
 

@@ -1,5 +1,5 @@
 -- Stores that grow while terms are put.
-use Rattle.std.proofs.Common.{◌≡◌, ◌≢◌, ℕ, zero, suc, ◌+◌, ◌<◌, ◌≤◌, ◌⊎◌, inl, inr, ℤ, pos, negsuc, List, [], ◌∷◌, ◌++◌, length, map, take, Option, Some, None, slice_get, refl, sym, ap, subst, ◌∙◌, arith, length-append, length-take}
+use Rattle.std.proofs.Common.{◌≡◌, ◌≢◌, ℕ, zero, suc, ◌+◌, ◌<◌, ◌≤◌, ◌⊎◌, inl, inr, ℤ, pos, negsuc, List, [], ◌∷◌, ◌++◌, length, map, take, Some, slice_get, refl, sym, ap, subst, ◌∙◌, arith, length-take}
 use Rattle.std.specs.List.{All, AllZip, slice_index_or}
 use Rattle.std.specs.Option.{IfSome}
 use Rattle.std.proofs.lemmas.Option.{slice_get_within, slice_get-get_or, get_or_from_slice_get}
@@ -10,7 +10,6 @@ use Rattle.mbqi_terms.specs.declared.store.node.Head.{Head}
 use Rattle.mbqi_terms.specs.declared.store.node.Head.TheVariants as head
 use Rattle.mbqi_terms.specs.declared.store.node.Node.{Node}
 use Rattle.mbqi_terms.specs.declared.term.ArrayTerm.{ArrayTerm}
-use Rattle.mbqi_terms.specs.declared.term.ArrayTerm.TheVariants as array
 use Rattle.mbqi_terms.specs.declared.term.ArrayTerm.TheOpen.{Term-F, Symbol-F}
 use Rattle.mbqi_terms.specs.declared.term.ArrayTerm.TheViews.{roll-out-Symbol, roll-out-Term}
 use Rattle.mbqi_terms.specs.declared.term.Symbol.{Symbol, out-Symbol, roll-Symbol}
@@ -18,11 +17,10 @@ use Rattle.mbqi_terms.specs.declared.term.Symbol.TheVariants as symbol
 use Rattle.mbqi_terms.specs.declared.term.Term.{Term, out-Term, roll-Term}
 use Rattle.mbqi_terms.specs.declared.term.Term.TheVariants as term
 use Rattle.mbqi_terms.specs.declared.term_id.TermId.{TermId}
-use Rattle.mbqi_terms.specs.Form.{IsLayerInForm, IsTermInForm, IsListed, FitPlaces}
-use Rattle.mbqi_terms.specs.Lists.{layer_sort, symbol_layer_places}
-use Rattle.mbqi_terms.specs.Store.{Store, IsSound, IsNode, Interns, HasTree, HasShape, IsHeadOf, HasNoHead, Extends, Grows, MayAdd, args_of, array_at, pair_at, base_of_node, head_layer, tree_at, trees_of, tree_of_node, with_node}
+use Rattle.mbqi_terms.specs.Form.{IsLayerInForm, IsTermInForm, IsListed}
+use Rattle.mbqi_terms.specs.Store.{Store, IsSound, IsNode, Interns, HasTree, IsHeadOf, HasNoHead, Extends, Grows, MayAdd, args_of, head_layer, tree_at, trees_of, tree_of_node, with_node}
 use Rattle.mbqi_terms.specs.Tree.{Layer, IsBase, IsPart, sum_of}
-use Rattle.mbqi_terms.proofs.Finding.{zip_trees, zip_stored, shape_is, tree_is, made, args-head_layer}
+use Rattle.mbqi_terms.proofs.Finding.{zip_trees, zip_stored, shape_is, made, args-head_layer}
 use Rattle.mbqi_terms.proofs.Levels.{out-plus}
 use Rattle.mbqi_terms.proofs.Matching.{read_head, default_head, diff_head}
 use Rattle.mbqi_terms.proofs.Trees.{length-trees, trees-take, trees-push, take-push, get_front, get_seam, get_take}

@@ -1,7 +1,6 @@
 -- A node with another number.
-use Rattle.std.proofs.Common.{◌≡◌, ◌≢◌, ℤ, pos, ◌+ℤ◌, Some, slice_get, map, sym, ap, subst, ◌∙◌}
+use Rattle.std.proofs.Common.{◌≡◌, ℤ, ◌+ℤ◌, map, sym, ap, subst, ◌∙◌}
 use Rattle.std.specs.Option.{IfSome}
-use Rattle.mbqi_terms.specs.declared.sort.Sort.{Sort}
 use Rattle.mbqi_terms.specs.declared.sort.Sort.TheVariants.{Int}
 use Rattle.mbqi_terms.specs.declared.store.node.Node.{Node}
 use Rattle.mbqi_terms.specs.declared.term.Term.{Term}

@@ -1,23 +1,15 @@
 -- The sort of a term from its node.
-use Rattle.std.proofs.Common.{◌≡◌, ℕ, zero, suc, ℤ, pos, negsuc, List, [], ◌∷◌, Option, Some, None, slice_get, refl, sym, ap, subst, ◌∙◌}
-use Rattle.std.specs.Option.{option_map, option_and_then, IsSome}
-use Rattle.mbqi_terms.specs.declared.sort.Sort.{Sort}
-use Rattle.mbqi_terms.specs.declared.sort.Sort.TheVariants.{Truth as Bool', Int, Elem, Array}
-use Rattle.mbqi_terms.specs.declared.script.Function.{Function}
-use Rattle.mbqi_terms.specs.declared.arrays.SkolemSort.{SkolemSort}
+use Rattle.std.proofs.Common.{◌≡◌, zero, suc, ℤ, pos, negsuc, List, refl, ap, ◌∙◌}
 use Rattle.mbqi_terms.specs.declared.store.lists.Lists.{Lists}
 use Rattle.mbqi_terms.specs.declared.store.node.Head.{Head}
 use Rattle.mbqi_terms.specs.declared.store.node.Head.TheVariants.{Zero, Var, Truth, Declared, Skolem, Seed, Far, Diff, Read, Default}
-use Rattle.mbqi_terms.specs.declared.term.ArrayTerm.TheOpen.{Term-F, Symbol-F}
+use Rattle.mbqi_terms.specs.declared.term.ArrayTerm.TheOpen.{Term-F}
 use Rattle.mbqi_terms.specs.declared.term.ArrayTerm.TheViews.{out-roll-Term}
-use Rattle.mbqi_terms.specs.declared.term.Symbol.{Symbol, out-Symbol}
-use Rattle.mbqi_terms.specs.declared.term.Term.{Term, out-Term, roll-Term}
-use Rattle.mbqi_terms.specs.Form.{FitPlaces, IsLayerInForm}
-use Rattle.mbqi_terms.specs.Lists.{symbol_layer_places, symbol_layer_sort, layer_sort, sum_sort, sort_of_term, skolem_of, array_sort, index_sort, element_sort}
-use Rattle.mbqi_terms.specs.Sort.{index_of, element_of}
-use Rattle.mbqi_terms.specs.Store.{head_layer, applied, array_at, pair_at, IsVariable}
+use Rattle.mbqi_terms.specs.declared.term.Term.{Term, roll-Term}
+use Rattle.mbqi_terms.specs.Lists.{layer_sort, sum_sort, sort_of_term}
+use Rattle.mbqi_terms.specs.Store.{head_layer, applied}
 use Rattle.mbqi_terms.specs.Tree.{Layer, IsBase, sum_of}
-use Rattle.mbqi_terms.proofs.Levels.{out-num, out-plus, out-declared, out-skolem, out-seed, out-far, out-diff}
+use Rattle.mbqi_terms.proofs.Levels.{out-num, out-plus}
 
 module _ (l : Lists) where
   pub base_sort : (x : Layer) → IsBase x → sum_sort l x ≡ layer_sort l x

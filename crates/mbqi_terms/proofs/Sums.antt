@@ -1,13 +1,8 @@
 -- A sum with a number taken apart.
-use Rattle.std.proofs.Common.{◌≡◌, ℕ, zero, suc, ℤ, pos, negsuc, ◌+ℤ◌, arith, refl, sym, ap, ◌∙◌}
+use Rattle.std.proofs.Common.{◌≡◌, zero, suc, ℤ, pos, negsuc, ◌+ℤ◌, arith, refl, sym, ap, ◌∙◌}
 use Rattle.std.proofs.lemmas.Int.{ints}
-use Rattle.mbqi_terms.specs.declared.store.node.Head.{Head}
-use Rattle.mbqi_terms.specs.declared.store.node.Head.TheVariants.{Zero, Var, Truth, Declared, Skolem, Seed, Far, Diff, Read, Default}
-use Rattle.mbqi_terms.specs.declared.term.ArrayTerm.{ArrayTerm}
-use Rattle.mbqi_terms.specs.declared.term.ArrayTerm.TheOpen.{Term-F, Symbol-F}
-use Rattle.mbqi_terms.specs.declared.term.ArrayTerm.TheViews.{out-roll-Term, out-roll-Symbol, roll-out-Term}
-use Rattle.mbqi_terms.specs.declared.term.Symbol.{Symbol, out-Symbol}
-use Rattle.mbqi_terms.specs.declared.term.Symbol.TheVariants as symbol
+use Rattle.mbqi_terms.specs.declared.term.ArrayTerm.TheOpen.{Term-F}
+use Rattle.mbqi_terms.specs.declared.term.ArrayTerm.TheViews.{out-roll-Term}
 use Rattle.mbqi_terms.specs.declared.term.Term.{Term, out-Term, roll-Term}
 use Rattle.mbqi_terms.specs.declared.term.Term.TheVariants as term
 use Rattle.mbqi_terms.proofs.Levels.{out-num, out-plus}

@@ -1,10 +1,9 @@
 -- Which terms are in form over lists of functions, Skolem symbols and arrays (this project's own).
-use Rattle.std.specs.Prelude.{◌≡◌, ◌≢◌, ℤ, pos, List, [], ◌∷◌, Option, Some, None, IfSome, IsSome, Contains}
+use Rattle.std.specs.Prelude.{◌≡◌, ◌≢◌, pos, List, [], ◌∷◌, Option, Some, None, IfSome, IsSome, Contains}
 use Rattle.std.specs.List.{AllZip}
 use Rattle.std.specs.Option.{option_map}
 use Rattle.mbqi_terms.specs.declared.sort.Sort.{Sort}
 use Rattle.mbqi_terms.specs.declared.sort.Sort.TheVariants.{Int}
-use Rattle.mbqi_terms.specs.declared.arrays.ArrayPair.{ArrayPair}
 use Rattle.mbqi_terms.specs.declared.store.lists.Lists.{Lists}
 use Rattle.mbqi_terms.specs.declared.term.ArrayTerm.TheOpen.{Symbol-F, Term-F}
 use Rattle.mbqi_terms.specs.declared.term.ArrayTerm.{ArrayTerm}

@@ -1,6 +1,6 @@
 -- The lists by which terms have their sorts (SMT-LIB 2.6, theories Core, Ints and ArraysEx, with this project's constant arrays,
 -- pointwise maps, defaults and hidden names).
-use Rattle.std.specs.Prelude.{◌≡◌, ℕ, ◌==◌, ◌&&◌, List, [], ◌∷◌, Option, Some, None, slice_get, find}
+use Rattle.std.specs.Prelude.{ℕ, ◌==◌, ◌&&◌, List, [], ◌∷◌, Option, Some, None, slice_get, find}
 use Rattle.std.specs.Option.{option_map, option_and_then}
 use Rattle.mbqi_terms.specs.declared.sort.Plain.{Plain}
 use Rattle.mbqi_terms.specs.declared.sort.Plain.TheVariants as plain
@@ -16,7 +16,7 @@ use Rattle.mbqi_terms.specs.declared.term.ArrayTerm.TheOpen.{ArrayTerm-F, Symbol
 use Rattle.mbqi_terms.specs.declared.term.ArrayTerm.TheFolds.{fold-ArrayTerm}
 use Rattle.mbqi_terms.specs.declared.term.Symbol.{Symbol, out-Symbol}
 use Rattle.mbqi_terms.specs.declared.term.Term.{Term, out-Term}
-use Rattle.mbqi_terms.specs.Sort.{plain_of, sort_of_plain, index_of, element_of}
+use Rattle.mbqi_terms.specs.Sort.{plain_of, index_of, element_of}
 use Rattle.mbqi_terms.specs.Tree.{Layer}
 
 -- The result sort of a function by its number.

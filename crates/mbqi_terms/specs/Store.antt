@@ -10,7 +10,6 @@ use Rattle.mbqi_terms.specs.declared.store.node.Node.{Node}
 use Rattle.mbqi_terms.specs.declared.term.ArrayTerm.{ArrayTerm}
 use Rattle.mbqi_terms.specs.declared.term.ArrayTerm.TheVariants as array
 use Rattle.mbqi_terms.specs.declared.term.ArrayTerm.TheOpen.{Term-F}
-use Rattle.mbqi_terms.specs.declared.term.Symbol.{Symbol}
 use Rattle.mbqi_terms.specs.declared.term.Symbol.TheVariants as symbol
 use Rattle.mbqi_terms.specs.declared.term.Term.{Term, roll-Term}
 use Rattle.mbqi_terms.specs.declared.term.Term.TheVariants as term

@@ -24,6 +24,7 @@ impl Model for NodeSet {
 }
 
 impl NodeSet {
+    /// An empty set, which takes no memory.
     pub(crate) fn new(alloc: Global) -> NodeSet
         ensures { result ≡ [] }
     {
@@ -32,12 +33,14 @@ impl NodeSet {
         }
     }
 
+    /// How many nodes there are.
     pub(crate) fn len(&self) -> usize
         ensures { result ≡ length self.now }
     {
         self.nodes.len()
     }
 
+    /// The nodes in order, no two of which are equal.
     pub(crate) fn as_slice(&self) -> &[Node]
         ensures nodes { result.now ≡ self.now }
         ensures distinct { AreDistinct self.now }

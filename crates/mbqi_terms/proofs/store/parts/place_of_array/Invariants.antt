@@ -1,5 +1,5 @@
 -- The array term is at none of the places passed.
-use Rattle.std.proofs.Common.{◌≡◌, ◌≢◌, ℕ, ◌<◌, Some, slice_get}
+use Rattle.std.proofs.Common.{◌≢◌, ℕ, ◌<◌, Some, slice_get}
 use Rattle.mbqi_terms.proofs.store.parts.place_of_array.Given as goal
 
 abbrev pub invariant-loop-i : goal.invariant-loop-i

@@ -1,4 +1,4 @@
-use Rattle.std.proofs.Common.{◌≡◌, ℕ, Option, Some, None, position, slice_get, IfSome, refl, sym, ap, ◌∙◌, is_some}
+use Rattle.std.proofs.Common.{◌≡◌, ℕ, Option, Some, None, position, slice_get, IfSome, sym, ap, ◌∙◌, is_some}
 use Rattle.mbqi_terms.specs.contracts.store.node.NodePartialEq.TheImpl as node
 use Rattle.mbqi_terms.proofs.NodeTest.{same_nodes, own_node}
 use Rattle.mbqi_terms.proofs.Places.{nowhere, position_is}

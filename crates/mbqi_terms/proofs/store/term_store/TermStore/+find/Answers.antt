@@ -1,10 +1,9 @@
-use Rattle.std.proofs.Common.{◌≡◌, ◌<◌, [], ◌∷◌, ◌++◌, length, take, pos, ◌≢◌, true≢false, Some, None, slice_get, refl, sym, ap, subst, ◌∙◌, arith, add-one}
+use Rattle.std.proofs.Common.{◌≡◌, [], ◌∷◌, length, take, pos, ◌≢◌, true≢false, refl, sym, ap, subst, ◌∙◌, arith}
 use Rattle.std.specs.List.{AllZip}
 use Rattle.std.specs.Option.{IfSome}
 use Rattle.std.proofs.lemmas.Option.{slice_get_read}
-use Rattle.mbqi_terms.specs.declared.term.Term.{Term, out-Term}
-use Rattle.mbqi_terms.specs.declared.term.Term.TheVariants as term
-use Rattle.mbqi_terms.specs.Store.{Store, HasTree, IsHeadOf, IsAbsent, AreAbsent, args_of, tree_of_node}
+use Rattle.mbqi_terms.specs.declared.term.Term.{out-Term}
+use Rattle.mbqi_terms.specs.Store.{Store, HasTree, IsHeadOf, IsAbsent, AreAbsent, args_of}
 use Rattle.mbqi_terms.specs.Tree.{IsBase, sum_of}
 use Rattle.mbqi_terms.proofs.Finding.{absent_without_head, absent_without_args, absent_sum, tree_is, shape_is, zip_stored}
 use Rattle.mbqi_terms.proofs.Levels.{out-read}

@@ -1,6 +1,5 @@
-use Rattle.std.proofs.Common.{◌≡◌, ◌≢◌, ℕ, ◌+◌, ◌<◌, ℤ, pos, List, [], ◌∷◌, ◌++◌, length, take, Result, Ok, Err, IfOk, OnErr, Some, None, slice_get, refl, sym, ap, subst, ◌∙◌, arith, rules}
-use Rattle.std.specs.List.{All, AllZip}
-use Rattle.std.specs.Option.{IfSome}
+use Rattle.std.proofs.Common.{◌≡◌, ◌+◌, [], ◌∷◌, length, take, Result, Ok, Err, IfOk, OnErr, refl, sym, ap, subst, ◌∙◌, arith}
+use Rattle.std.specs.List.{AllZip}
 use Rattle.std.proofs.lemmas.Int.{ints}
 use Rattle.std.proofs.lemmas.Option.{slice_get_read}
 use Rattle.std.specs.declared.alloc.AllocError.{AllocError}
@@ -13,13 +12,11 @@ use Rattle.mbqi_terms.specs.declared.store.node.Node.{Node}
 use Rattle.mbqi_terms.specs.declared.term.Term.{Term, out-Term}
 use Rattle.mbqi_terms.specs.declared.term.Term.TheVariants as term
 use Rattle.mbqi_terms.specs.declared.term_id.TermId.{TermId}
-use Rattle.mbqi_terms.specs.Form.{IsTermInForm, IsLayerInForm}
-use Rattle.mbqi_terms.specs.Store.{Store, IsSound, IsNode, HasTree, IsHeadOf, HasNoHead, Interns, Grows, MayAdd, args_of, tree_of_node}
-use Rattle.mbqi_terms.specs.Tree.{IsBase, sum_of}
+use Rattle.mbqi_terms.specs.Form.{IsLayerInForm}
+use Rattle.mbqi_terms.specs.Store.{Store, IsSound, HasTree, IsHeadOf, Interns, Grows, MayAdd, args_of, tree_of_node}
+use Rattle.mbqi_terms.specs.Tree.{sum_of}
 use Rattle.mbqi_terms.proofs.Finding.{tree_is}
-use Rattle.mbqi_terms.proofs.Levels.{out-apply, out-read, out-num}
-use Rattle.mbqi_terms.proofs.Options.{none_of}
-use Rattle.mbqi_terms.proofs.Putting.{args_form, base_form, form_head, grows_base, grows_below, grows_more, grows_next, grows_numeral, grows_self, kept_zip, layer_form, may_add, no_args, put_node_form, sum_form, sum_is}
+use Rattle.mbqi_terms.proofs.Putting.{form_head, grows_base, grows_below, grows_more, grows_next, grows_numeral, grows_self, kept_zip, layer_form, no_args, put_node_form, sum_form, sum_is}
 use Rattle.mbqi_terms.proofs.Trees.{take-push}
 use Rattle.mbqi_terms.proofs.Zips.{zip_push}
 use Rattle.mbqi_terms.proofs.store.term_store.TermStore.+put.Goals as goal

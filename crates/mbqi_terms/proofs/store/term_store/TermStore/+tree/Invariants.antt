@@ -1,5 +1,5 @@
 -- The terms so far are those of the arguments as far as the loop has come.
-use Rattle.std.proofs.Common.{◌≡◌, map, take, ℕ}
+use Rattle.std.proofs.Common.{◌≡◌, map, take}
 use Rattle.mbqi_terms.specs.Store.{tree_at, trees_of}
 use Rattle.mbqi_terms.proofs.store.term_store.TermStore.+tree.Given as goal
 

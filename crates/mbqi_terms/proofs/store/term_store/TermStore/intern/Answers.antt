@@ -1,4 +1,4 @@
-use Rattle.std.proofs.Common.{◌≡◌, Some, slice_get, sym, subst}
+use Rattle.std.proofs.Common.{sym, subst}
 use Rattle.mbqi_terms.specs.Store.{Store, IsNode, HasTree, Interns, tree_of_node}
 use Rattle.mbqi_terms.proofs.Growth.{sound-put, put_interns, put_node, put_tree}
 use Rattle.mbqi_terms.proofs.store.term_store.TermStore.intern.Goals as goal

@@ -1,6 +1,6 @@
 use Rattle.std.proofs.Common.{◌≡◌, ◌<◌, length, Some, slice_get, refl, sym, ap, subst, ◌∙◌, arith}
 use Rattle.std.proofs.lemmas.Option.{slice_get_read}
-use Rattle.mbqi_terms.specs.Store.{Store, IsNode, HasTree, tree_of_node, first}
+use Rattle.mbqi_terms.specs.Store.{Store, IsNode, HasTree, tree_of_node}
 use Rattle.mbqi_terms.specs.Store.{trees_of, tree_at}
 use Rattle.std.proofs.Common.{map}
 use Rattle.mbqi_terms.proofs.Growth.{before, has_tree, stored_node}

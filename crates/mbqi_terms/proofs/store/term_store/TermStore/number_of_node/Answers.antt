@@ -1,7 +1,6 @@
-use Rattle.std.proofs.Common.{◌≡◌, ◌<◌, length, None, sym, ap, subst, ◌∙◌}
+use Rattle.std.proofs.Common.{◌≡◌, ◌<◌, length, sym, subst}
 use Rattle.std.specs.List.{All}
 use Rattle.mbqi_terms.specs.Store.{Store, HasTree, HasShape, IsAbsent, tree_of_node}
-use Rattle.mbqi_terms.specs.declared.store.node.Node.{Node}
 use Rattle.mbqi_terms.proofs.Growth.{has_tree}
 use Rattle.mbqi_terms.proofs.Finding.{node_absent}
 use Rattle.mbqi_terms.proofs.store.term_store.TermStore.number_of_node.Goals as goal

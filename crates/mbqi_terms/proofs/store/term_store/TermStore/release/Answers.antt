@@ -1,4 +1,3 @@
-use Rattle.std.proofs.Common.{sym, subst}
 use Rattle.mbqi_terms.proofs.Growth.{sound-first}
 use Rattle.mbqi_terms.proofs.store.term_store.TermStore.release.Goals as goal
 

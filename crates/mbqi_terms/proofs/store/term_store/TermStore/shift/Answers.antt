@@ -6,7 +6,7 @@ use mir.Syntax.{w128}
 use Rattle.mbqi_terms.specs.declared.store.node.Node.{Node}
 use Rattle.mbqi_terms.specs.declared.term.Term.{Term}
 use Rattle.mbqi_terms.specs.declared.term_id.TermId.{TermId}
-use Rattle.mbqi_terms.specs.Store.{Store, IsNode, HasTree, tree_of_node}
+use Rattle.mbqi_terms.specs.Store.{IsNode, HasTree, tree_of_node}
 use Rattle.mbqi_terms.specs.Tree.{plus_of}
 use Rattle.mbqi_terms.proofs.Shifts.{shifted, shifted_node, shifted_tree}
 use Rattle.mbqi_terms.proofs.store.term_store.TermStore.shift.Goals as goal

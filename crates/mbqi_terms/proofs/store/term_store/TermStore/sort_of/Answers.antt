@@ -1,4 +1,4 @@
-use Rattle.std.proofs.Common.{◌≡◌, Some, map, sym, ap, ◌∙◌}
+use Rattle.std.proofs.Common.{◌≡◌, map, sym, ap, ◌∙◌}
 use Rattle.mbqi_terms.specs.Lists.{layer_sort, sort_of_term}
 use Rattle.mbqi_terms.specs.Store.{Store, head_layer, tree_of_node, trees_of, tree_at}
 use Rattle.mbqi_terms.proofs.Sorted.{sort-applied}
