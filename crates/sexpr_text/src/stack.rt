@@ -21,6 +21,7 @@ impl<T> Model for Stack<T> {
 }
 
 impl<T: Drop> Stack<T> {
+    /// A stack of nothing, which takes no memory.
     pub fn new(alloc: Global) -> Stack<T>
         ensures { result ≡ [] }
     {
@@ -29,12 +30,14 @@ impl<T: Drop> Stack<T> {
         }
     }
 
+    /// How many items there are.
     pub fn len(&self) -> usize
         ensures { result ≡ length self.now }
     {
         self.items.len()
     }
 
+    /// Puts an item on top. The one error is want of memory.
     pub fn push(&mut self, item: T) -> Result<(), AllocError>
         ensures { OnOk result (self.new ≡ item ∷ self.old) }
     {
@@ -42,6 +45,7 @@ impl<T: Drop> Stack<T> {
         Ok(())
     }
 
+    /// Takes the top item off, where there is one.
     pub fn pop(&mut self) -> Option<T>
         ensures { MatchOption result ((self.old ≡ []) × (self.new ≡ [])) (λ item. self.old ≡ item ∷ self.new) }
     {
