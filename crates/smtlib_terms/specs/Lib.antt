@@ -1,0 +1,10 @@
+pub mod Meaning
+pub mod Number
+pub mod Words
+pub mod Names
+pub mod Operators
+pub mod Applying
+pub mod Reading
+pub mod Declaring
+pub mod Answers
+pub mod Steps
