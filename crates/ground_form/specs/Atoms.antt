@@ -1,0 +1,36 @@
+-- Ground atoms by the numbers of their arguments in a pool of ground terms (this project's own).
+use Rattle.std.specs.Prelude.{◌≡◌, ℕ, ◌<◌, Bool, List, [], length, map, All, Some, slice_get, slice_index, slice_index_or}
+use Rattle.function_model.specs.TruthOf.{Meanings}
+use Rattle.function_model.specs.ValueOf.{is_true}
+use Rattle.mbqi_terms.specs.Store.{tree_at}
+use Rattle.mbqi_terms.specs.declared.script.Function.{Function}
+use Rattle.mbqi_terms.specs.declared.term.Symbol.TheVariants as symbol
+use Rattle.mbqi_terms.specs.declared.term.Term.{Term}
+use Rattle.mbqi_terms.specs.declared.term.Term.TheVariants as term
+use Rattle.ground_form.specs.Profile.{IsPredicate, NamesConstant, constant, constants_of}
+use Rattle.ground_form.specs.declared.atoms.GroundAtom.{GroundAtom}
+use Rattle.ground_form.specs.declared.pool.Pool.{Pool}
+
+-- The term of an atom over a pool.
+abbrev pub atom_tree : List Term → GroundAtom → Term
+atom_tree terms atom = term.Apply (symbol.Declared atom.predicate) (map (tree_at terms) atom.args)
+
+-- The atom of a number in a list of them.
+abbrev pub atom_at : List GroundAtom → ℕ → GroundAtom
+atom_at atoms i = slice_index_or atoms i (record { predicate = 0; args = [] })
+
+-- The truths that a valuation of terms gives to the atoms of a list.
+abbrev pub truths_by : Meanings → List Term → List GroundAtom → ℕ → Bool
+truths_by m terms atoms i = is_true (m.value (atom_tree terms (atom_at atoms i)))
+
+-- A predicate of as many terms of the pool as it takes.
+pub record IsOver (functions : List Function) (terms : List Term) (atom : GroundAtom) : Type 0 where
+  pub predicate : (function : Function) × (slice_get functions atom.predicate ≡ Some function) × IsPredicate function
+      × (length atom.args ≡ length function.args)
+  pub args : All (λ id. id.0 < length terms) atom.args
+
+-- The pool of the functions: their constants in order, and each constant's number among them.
+pub record IsPool (functions : List Function) (pool : Pool) : Type 0 where
+  pub terms : pool.terms ≡ constants_of functions
+  pub numbers : length pool.numbers ≡ length functions
+  pub places : (c : ℕ) → NamesConstant functions c → slice_get pool.terms (slice_index pool.numbers c) ≡ Some (constant c)
