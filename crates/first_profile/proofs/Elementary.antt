@@ -8,15 +8,16 @@ use Rattle.sexpr_text.specs.declared.tree.Sexpr.{Sexpr}
 use Rattle.mbqi_terms.specs.declared.script.Function.{Function}
 use Rattle.mbqi_terms.specs.declared.script.Script.{Script}
 use Rattle.mbqi_terms.specs.declared.sort.Sort.{Sort}
-use Rattle.mbqi_app.specs.Profile.{is_symbol, is_empty, is_zero, names_sort, are_sorts, new_name, the_sort, constant, predicate, with_function, with_sort, with_constant, with_arguments, with_predicate, with_question, by_word, by_parts, after_command, after_commands, parts_of, empty_script, meaning_of}
-use Rattle.mbqi_app.specs.Reads.{Reads}
+use Rattle.first_profile.specs.Assertions.{clause_of}
+use Rattle.first_profile.specs.Profile.{is_empty, names_sort, are_sorts, new_name, declared_constant, declared_predicate, with_function, with_sort, with_constant, with_arguments, with_predicate, with_formula, with_assertion, with_question, by_word, by_parts, after_command, after_commands, empty_script, meaning_of}
+use Rattle.first_profile.specs.Tree.{is_symbol, is_zero, parts_of}
+use Rattle.first_profile.proofs.Clauses.{chosen, mapped, clause_read, clause_stays}
+use Rattle.mbqi_terms.specs.declared.formula.Formula.{Formula}
+use Rattle.mbqi_terms.specs.declared.script.Assertion.{Assertion}
+use Rattle.first_profile.specs.Reads.{Reads}
 use Rattle.mbqi_values.specs.declared.fault.ReadError.{ReadError}
 use Rattle.mbqi_values.specs.declared.fault.ReadError.TheVariants.{Refused, Memory}
-use Rattle.mbqi_app.specs.Elements.{IsConstant, IsPredicate, IsElementary}
-
-chosen : {P : Type 0} (b : Bool) (x y : Option Script) (z : Script) → cond b x y ≡ Some z → (b ≡ true → x ≡ Some z → P) → (b ≡ false → y ≡ Some z → P) → P
-chosen true x y z h f g = f refl h
-chosen false x y z h f g = g refl h
+use Rattle.ground_form.specs.Profile.{the_sort, IsConstant, IsPredicate, IsClause, IsElementary}
 
 first : (a b : Bool) → (a && b) ≡ true → a ≡ true
 first true b h = refl
@@ -33,7 +34,7 @@ none z h = cc
 of_some : (P : Script → Type 0) (x z : Script) → Some x ≡ Some z → P x → P z
 of_some P x z h p = let e : x ≡ z = cc in subst P e p
 
-more : (P : Function → Type 0) (functions : List Function) (function : Function) → AllByRecursion P functions → P function → AllByRecursion P (functions ++ function ∷ [])
+more : {A : Type 0} (P : A → Type 0) (functions : List A) (function : A) → AllByRecursion P functions → P function → AllByRecursion P (functions ++ function ∷ [])
 more P [] function each last = (last, tt)
 more P (f ∷ functions) function each last = (each.0, more P functions function each.1 last)
 
@@ -50,12 +51,17 @@ no_sorts [] [] h e = cc
 no_sorts [] (arg ∷ args) h e = cc
 no_sorts (sort ∷ sorts) args h e = cc
 
+all_stay : (functions new : List Function) (assertions : List Assertion) → AllByRecursion (λ assertion. IsClause functions assertion.formula) assertions
+    → AllByRecursion (λ assertion. IsClause (functions ++ new) assertion.formula) assertions
+all_stay functions new [] all = tt
+all_stay functions new (assertion ∷ assertions) all = (clause_stays functions new assertion.formula all.0, all_stay functions new assertions all.1)
+
 with_one_more : (script : Script) (function : Function) → IsElementary script → (script.sorts ≡ [] → ⊥) → IsConstant function ⊎ IsPredicate function
     → IsElementary (with_function script function)
 with_one_more script function is some new = record {
   sorts = is.sorts;
   named = λ e. absurd (some e);
-  assertions = is.assertions;
+  assertions = all_stay script.functions (function ∷ []) script.assertions is.assertions;
   functions = more (λ f. IsConstant f ⊎ IsPredicate f) script.functions function is.functions new;
 }
 
@@ -63,19 +69,19 @@ constant_taken : (script : Script) (parts : List Sexpr) (next : Script) → IsEl
 constant_taken script [] next is h = none next h
 constant_taken script (name ∷ []) next is h = none next h
 constant_taken script (name ∷ sort ∷ []) next is h =
-    chosen (names_sort script.sorts sort) (option_and_then (λ word. Some (with_function script (constant word))) (new_name script name)) None next h
-    (λ named found. option_and_then_some (λ word. Some (with_function script (constant word))) (new_name script name) next found
-    (λ word e made. of_some IsElementary (with_function script (constant word)) next made
-    (with_one_more script (constant word) is (no_name script.sorts sort named) (inl (refl, refl)))))
+    chosen (names_sort script.sorts sort) (option_and_then (λ word. Some (with_function script (declared_constant word))) (new_name script name)) None next h
+    (λ named found. option_and_then_some (λ word. Some (with_function script (declared_constant word))) (new_name script name) next found
+    (λ word e made. of_some IsElementary (with_function script (declared_constant word)) next made
+    (with_one_more script (declared_constant word) is (no_name script.sorts sort named) (inl (refl, refl)))))
     (λ b missing. none next missing)
 constant_taken script (name ∷ sort ∷ more ∷ parts) next is h = none next h
 
 arguments_taken : (script : Script) (name : Sexpr) (args : List Sexpr) (next : Script) → IsElementary script → with_arguments script name args ≡ Some next → IsElementary next
 arguments_taken script name args next is h =
-    chosen (are_sorts script.sorts args) (option_and_then (λ word. Some (with_function script (predicate word args))) (new_name script name)) None next h
-    (λ named found. option_and_then_some (λ word. Some (with_function script (predicate word args))) (new_name script name) next found
-    (λ word e made. of_some IsElementary (with_function script (predicate word args)) next made
-    (with_one_more script (predicate word args) is (no_sorts script.sorts args named) (inr (refl, all_the_sort args)))))
+    chosen (are_sorts script.sorts args) (option_and_then (λ word. Some (with_function script (declared_predicate word args))) (new_name script name)) None next h
+    (λ named found. option_and_then_some (λ word. Some (with_function script (declared_predicate word args))) (new_name script name) next found
+    (λ word e made. of_some IsElementary (with_function script (declared_predicate word args)) next made
+    (with_one_more script (declared_predicate word args) is (no_sorts script.sorts args named) (inr (refl, all_the_sort args)))))
     (λ b missing. none next missing)
 
 predicate_taken : (script : Script) (parts : List Sexpr) (next : Script) → IsElementary script → with_predicate script parts ≡ Some next → IsElementary next
@@ -112,6 +118,21 @@ sort_taken script (name ∷ arity ∷ []) next is h =
     (λ b missing. none next missing)
 sort_taken script (name ∷ arity ∷ more ∷ parts) next is h = none next h
 
+one_more_clause : (script : Script) (f : Formula) → IsElementary script → IsClause script.functions f → IsElementary (with_formula script f)
+one_more_clause script f is clause = record {
+  sorts = is.sorts;
+  named = is.named;
+  functions = is.functions;
+  assertions = more (λ assertion. IsClause script.functions assertion.formula) script.assertions (record { label = None; formula = f }) is.assertions clause;
+}
+
+assertion_taken : (script : Script) (parts : List Sexpr) (next : Script) → IsElementary script → with_assertion script parts ≡ Some next → IsElementary next
+assertion_taken script [] next is h = none next h
+assertion_taken script (tree ∷ []) next is h =
+    mapped (with_formula script) (clause_of script.functions tree) next h
+    (λ f e made. subst IsElementary made (one_more_clause script f is (clause_read script.functions tree f is.functions e)))
+assertion_taken script (tree ∷ other ∷ parts) next is h = none next h
+
 question_taken : (script : Script) (parts : List Sexpr) (next : Script) → IsElementary script → with_question script parts ≡ Some next → IsElementary next
 question_taken script [] next is h = of_some IsElementary (record script { asks = true }) next h (record { sorts = is.sorts; named = is.named; assertions = is.assertions; functions = is.functions })
 question_taken script (part ∷ parts) next is h = none next h
@@ -120,18 +141,24 @@ word_taken : (script : Script) (head : Sexpr) (parts : List Sexpr) (next : Scrip
 word_taken script head parts next is h =
     chosen (is_symbol (codes "declare-const") head) (with_constant script parts)
     (if is_symbol (codes "declare-fun") head then with_predicate script parts
+    else (if is_symbol (codes "assert") head then with_assertion script parts
     else (if is_symbol (codes "declare-sort") head then with_sort script parts
-    else (if is_symbol (codes "check-sat") head then with_question script parts else None))) next h
+    else (if is_symbol (codes "check-sat") head then with_question script parts else None)))) next h
     (λ b t. constant_taken script parts next is t)
     (λ b t. chosen (is_symbol (codes "declare-fun") head) (with_predicate script parts)
+    (if is_symbol (codes "assert") head then with_assertion script parts
+    else (if is_symbol (codes "declare-sort") head then with_sort script parts
+    else (if is_symbol (codes "check-sat") head then with_question script parts else None))) next t
+    (λ b t. predicate_taken script parts next is t)
+    (λ b t. chosen (is_symbol (codes "assert") head) (with_assertion script parts)
     (if is_symbol (codes "declare-sort") head then with_sort script parts
     else (if is_symbol (codes "check-sat") head then with_question script parts else None)) next t
-    (λ b t. predicate_taken script parts next is t)
+    (λ b t. assertion_taken script parts next is t)
     (λ b t. chosen (is_symbol (codes "declare-sort") head) (with_sort script parts)
     (if is_symbol (codes "check-sat") head then with_question script parts else None) next t
     (λ b t. sort_taken script parts next is t)
     (λ b t. chosen (is_symbol (codes "check-sat") head) (with_question script parts) None next t
-    (λ b t. question_taken script parts next is t) (λ b t. none next t))))
+    (λ b t. question_taken script parts next is t) (λ b t. none next t)))))
 
 parts_taken : (script : Script) (parts : List Sexpr) (next : Script) → IsElementary script → by_parts script parts ≡ Some next → IsElementary next
 parts_taken script [] next is h = none next h
@@ -153,6 +180,6 @@ commands_taken script (tree ∷ trees) next is h =
 
 -- the script of a reader
 pub reads_elementary : (result : Result Script ReadError) (trees : List Sexpr) → Reads result (meaning_of trees) → IfOk result (λ script. IsElementary script)
-reads_elementary (Ok script) trees h = commands_taken empty_script trees script (record { sorts = omega arith; named = λ e. refl; assertions = refl; functions = tt }) h
+reads_elementary (Ok script) trees h = commands_taken empty_script trees script (record { sorts = omega arith; named = λ e. refl; assertions = tt; functions = tt }) h
 reads_elementary (Err Memory) trees h = tt
 reads_elementary (Err (Refused refusal)) trees h = tt

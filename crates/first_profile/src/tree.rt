@@ -1,7 +1,7 @@
 //! Views of a tree of the reader: the word of a symbol and the parts of a list.
 
 ghost use Rattle.std.specs.Prelude.{◌≡◌, None, Some, MatchOption};
-ghost use Rattle.mbqi_app.specs.Profile.{word_of, parts_of, is_zero, is_symbol};
+ghost use Rattle.first_profile.specs.Tree.{word_of, parts_of, is_zero, is_symbol};
 
 use sexpr_text::Sexpr;
 

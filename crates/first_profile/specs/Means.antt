@@ -4,8 +4,8 @@ use Rattle.sexpr_text.specs.Forms.{HaveForms, IsRefused}
 use Rattle.sexpr_text.specs.declared.tree.Form.{Form}
 use Rattle.sexpr_text.specs.declared.tree.Sexpr.{Sexpr}
 use Rattle.mbqi_terms.specs.declared.script.Script.{Script}
-use Rattle.mbqi_app.specs.Profile.{meaning_of}
-use Rattle.mbqi_app.specs.Reads.{outside}
+use Rattle.first_profile.specs.Profile.{meaning_of}
+use Rattle.first_profile.specs.Reads.{outside}
 
 abbrev pub trees_of : List Form → List Sexpr
 trees_of forms = map (λ form. form.tree) forms

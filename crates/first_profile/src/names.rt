@@ -4,7 +4,7 @@ ghost use Rattle.std.specs.Prelude.{◌≡◌};
 ghost use Rattle.std.specs.List.{list_all, list_any};
 ghost use Rattle.std.specs.Str.{bytes_eq};
 ghost use Rattle.sexpr_text.specs.Bytes.{is_symbol_byte};
-ghost use Rattle.mbqi_app.specs.Profile.{is_simple, is_for_solvers, is_reserved, is_name};
+ghost use Rattle.first_profile.specs.Profile.{is_simple, is_for_solvers, is_reserved, is_name};
 
 /// The words that no declaration may name: SMT-LIB 2.6's reserved words, its commands, and the symbols of the
 /// theories Core, Ints and ArraysEx.

@@ -1,16 +1,17 @@
 use Rattle.std.specs.Prelude.{ℕ, ◌==◌, ◌&&◌, ◌||◌, Bool, true, false, not, List, [], ◌∷◌, ◌++◌, map, Option, None, Some, codes, if◌then◌else◌}
 use Rattle.std.specs.List.{list_all, list_any}
-use Rattle.std.specs.Option.{option_and_then}
+use Rattle.std.specs.Option.{option_and_then, option_map}
 use Rattle.std.specs.Char.{is_ascii_digit}
 use Rattle.std.specs.Str.{bytes_eq}
 use Rattle.sexpr_text.specs.Bytes.{is_symbol_byte}
 use Rattle.sexpr_text.specs.declared.tree.Sexpr.{Sexpr}
-use Rattle.sexpr_text.specs.declared.tree.Sexpr.TheOpen.{Sexpr-F}
-use Rattle.sexpr_text.specs.declared.tree.Sexpr.TheViews.{out-Sexpr}
-use Rattle.mbqi_app.specs.declared.names.TheConstants.{RESERVED_WORDS}
+use Rattle.ground_form.specs.Profile.{the_sort}
+use Rattle.first_profile.specs.Assertions.{clause_of}
+use Rattle.first_profile.specs.Tree.{word_of, parts_of, is_zero, is_symbol}
+use Rattle.mbqi_terms.specs.declared.formula.Formula.{Formula}
+use Rattle.first_profile.specs.declared.names.TheConstants.{RESERVED_WORDS}
 use Rattle.mbqi_terms.specs.declared.script.Function.{Function}
 use Rattle.mbqi_terms.specs.declared.script.Script.{Script}
-use Rattle.mbqi_terms.specs.declared.sort.Sort.{Sort}
 use Rattle.mbqi_terms.specs.declared.sort.Sort.TheVariants as sort
 
 -- The first profile of scripts (this project's own, inside SMT-LIB 2.6): one sort, its constants, and predicates
@@ -34,55 +35,6 @@ is_reserved word = list_any (λ reserved. bytes_eq word reserved.now) RESERVED_W
 abbrev pub is_name : List ℕ → Bool
 is_name word = is_simple word && not (is_for_solvers word) && not (is_reserved word)
 
--- The word of a tree that is a symbol, and the parts of one that is a list.
-abbrev pub word_in : Sexpr-F Sexpr → Option (List ℕ)
-word_in (Sexpr-F.Symbol word) = Some word
-word_in (Sexpr-F.Numeral text) = None
-word_in (Sexpr-F.Decimal text) = None
-word_in (Sexpr-F.Hex text) = None
-word_in (Sexpr-F.Binary text) = None
-word_in (Sexpr-F.Str text) = None
-word_in (Sexpr-F.Keyword text) = None
-word_in (Sexpr-F.List parts) = None
-
-abbrev pub word_of : Sexpr → Option (List ℕ)
-word_of tree = word_in (out-Sexpr tree)
-
-abbrev pub parts_in : Sexpr-F Sexpr → Option (List Sexpr)
-parts_in (Sexpr-F.List parts) = Some parts
-parts_in (Sexpr-F.Symbol word) = None
-parts_in (Sexpr-F.Numeral text) = None
-parts_in (Sexpr-F.Decimal text) = None
-parts_in (Sexpr-F.Hex text) = None
-parts_in (Sexpr-F.Binary text) = None
-parts_in (Sexpr-F.Str text) = None
-parts_in (Sexpr-F.Keyword text) = None
-
-abbrev pub parts_of : Sexpr → Option (List Sexpr)
-parts_of tree = parts_in (out-Sexpr tree)
-
-abbrev pub is_zero_in : Sexpr-F Sexpr → Bool
-is_zero_in (Sexpr-F.Numeral text) = bytes_eq text (codes "0")
-is_zero_in (Sexpr-F.Symbol word) = false
-is_zero_in (Sexpr-F.Decimal text) = false
-is_zero_in (Sexpr-F.Hex text) = false
-is_zero_in (Sexpr-F.Binary text) = false
-is_zero_in (Sexpr-F.Str text) = false
-is_zero_in (Sexpr-F.Keyword text) = false
-is_zero_in (Sexpr-F.List parts) = false
-
--- The numeral 0.
-abbrev pub is_zero : Sexpr → Bool
-is_zero tree = is_zero_in (out-Sexpr tree)
-
--- A tree that is this symbol.
-abbrev pub is_word : List ℕ → Option (List ℕ) → Bool
-is_word word None = false
-is_word word (Some other) = bytes_eq other word
-
-abbrev pub is_symbol : List ℕ → Sexpr → Bool
-is_symbol word tree = is_word word (word_of tree)
-
 -- Whether the script has declared the name.
 abbrev pub is_declared : Script → List ℕ → Bool
 is_declared script word =
@@ -103,15 +55,12 @@ names_sort (name ∷ names) tree = is_symbol name tree
 abbrev pub with_function : Script → Function → Script
 with_function script function = record script { functions = script.functions ++ function ∷ [] }
 
--- The one sort has the number 0.
-abbrev pub the_sort : Sort
-the_sort = sort.Elem 0
+-- The declarations of a constant and of a predicate.
+abbrev pub declared_constant : List ℕ → Function
+declared_constant name = record { name = name; args = []; result = the_sort }
 
-abbrev pub constant : List ℕ → Function
-constant name = record { name = name; args = []; result = the_sort }
-
-abbrev pub predicate : List ℕ → List Sexpr → Function
-predicate name args = record { name = name; args = map (λ arg. the_sort) args; result = sort.Truth }
+abbrev pub declared_predicate : List ℕ → List Sexpr → Function
+declared_predicate name args = record { name = name; args = map (λ arg. the_sort) args; result = sort.Truth }
 
 abbrev pub is_empty : {A : Type 0} → List A → Bool
 is_empty [] = true
@@ -129,7 +78,7 @@ with_sort script parts = None
 abbrev pub with_constant : Script → List Sexpr → Option Script
 with_constant script (name ∷ sort ∷ []) =
     if names_sort script.sorts sort
-    then option_and_then (λ word. Some (with_function script (constant word))) (new_name script name)
+    then option_and_then (λ word. Some (with_function script (declared_constant word))) (new_name script name)
     else None
 with_constant script parts = None
 
@@ -140,7 +89,7 @@ are_sorts sorts args = not (is_empty args) && list_all (names_sort sorts) args
 abbrev pub with_arguments : Script → Sexpr → List Sexpr → Option Script
 with_arguments script name args =
     if are_sorts script.sorts args
-    then option_and_then (λ word. Some (with_function script (predicate word args))) (new_name script name)
+    then option_and_then (λ word. Some (with_function script (declared_predicate word args))) (new_name script name)
     else None
 
 -- `(declare-fun p (s ...) Bool)`.
@@ -148,6 +97,14 @@ abbrev pub with_predicate : Script → List Sexpr → Option Script
 with_predicate script (name ∷ args ∷ result ∷ []) =
     if is_symbol (codes "Bool") result then option_and_then (with_arguments script name) (parts_of args) else None
 with_predicate script parts = None
+
+-- `(assert m)`.
+abbrev pub with_formula : Script → Formula → Script
+with_formula script f = record script { assertions = script.assertions ++ record { label = None; formula = f } ∷ [] }
+
+abbrev pub with_assertion : Script → List Sexpr → Option Script
+with_assertion script (tree ∷ []) = option_map (with_formula script) (clause_of script.functions tree)
+with_assertion script parts = None
 
 -- `(check-sat)`.
 abbrev pub with_question : Script → List Sexpr → Option Script
@@ -159,9 +116,10 @@ abbrev pub by_word : Script → Sexpr → List Sexpr → Option Script
 by_word script head parts =
     if is_symbol (codes "declare-const") head then with_constant script parts
     else (if is_symbol (codes "declare-fun") head then with_predicate script parts
+    else (if is_symbol (codes "assert") head then with_assertion script parts
     else (if is_symbol (codes "declare-sort") head then with_sort script parts
     else (if is_symbol (codes "check-sat") head then with_question script parts
-    else None)))
+    else None))))
 
 abbrev pub by_parts : Script → List Sexpr → Option Script
 by_parts script [] = None

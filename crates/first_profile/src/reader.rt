@@ -1,18 +1,19 @@
-//! The reader of the first profile: one sort, its constants, and predicates over it.
+//! The reader of commands.
 
 ghost use Rattle.std.specs.Prelude.{◌≡◌, ℕ, List, IfOk, map};
 ghost use Rattle.std.specs.List.{list_all, list_any};
 ghost use Rattle.std.specs.Str.{bytes_eq};
-ghost use Rattle.mbqi_app.specs.Profile.{is_declared, new_name, names_sort, are_sorts, with_sort, with_constant, with_predicate, with_arguments, with_question, by_word, by_parts, after_command, predicate, the_sort, meaning_of};
+ghost use Rattle.first_profile.specs.Profile.{is_declared, new_name, names_sort, are_sorts, with_sort, with_constant, with_predicate, with_arguments, with_question, by_word, by_parts, after_command, declared_predicate, with_assertion, meaning_of};
 ghost use Rattle.sexpr_text.specs.Forms.{IfRefused};
 ghost use Rattle.mbqi_terms.specs.declared.script.Script.{Script};
-ghost use Rattle.mbqi_app.specs.Elements.{IsElementary};
-ghost use Rattle.mbqi_app.specs.Means.{Means, Refused, IsOutside, trees_of};
-ghost use Rattle.mbqi_app.specs.Reads.{Reads, Takes, outside};
+ghost use Rattle.ground_form.specs.Profile.{IsElementary, the_sort};
+ghost use Rattle.first_profile.specs.Means.{Means, Refused, IsOutside, trees_of};
+ghost use Rattle.first_profile.specs.Reads.{Reads, Takes, outside};
 
+use crate::assertions::clause_of;
 use crate::names::is_name;
 use crate::tree::{is_symbol, is_zero, parts_of, word_of};
-use mbqi_terms::{Assertions, Function, Functions, Script, Sort, Sorts};
+use mbqi_terms::{Assertion, Assertions, Function, Functions, Script, Sort, Sorts};
 use mbqi_values::{FaultKind, ReadError, Refusal, Text, Texts};
 use sexpr_text::laws::one_answer;
 use sexpr_text::{Form, Sexpr, read_forms};
@@ -62,7 +63,7 @@ fn read_commands(alloc: Global, forms: &[Form]) -> Result<Script, ReadError>
 const THE_SORT: Sort = Sort::Elem(0);
 
 /// A file outside the first profile is refused at its start.
-fn outside() -> Refusal
+pub fn outside() -> Refusal
     ensures { result ≡ outside }
 {
     Refusal {
@@ -166,8 +167,8 @@ fn sorts_of(alloc: Global, args: &[Sexpr]) -> Result<Vec<Sort>, AllocError>
     args.iter().map(|_| THE_SORT).collect(alloc)
 }
 
-fn predicate(alloc: Global, name: Text, args: &[Sexpr]) -> Result<Function, AllocError>
-    ensures { IfOk result (λ function. function ≡ predicate name args.now) }
+fn declared_predicate(alloc: Global, name: Text, args: &[Sexpr]) -> Result<Function, AllocError>
+    ensures { IfOk result (λ function. function ≡ declared_predicate name args.now) }
 {
     let sorts = sorts_of(alloc, args)?;
     Ok(Function {
@@ -189,7 +190,7 @@ fn take_arguments(
         return Err(ReadError::Refused(outside()));
     }
     let name = new_name(alloc, script, name)?;
-    script.functions.push(predicate(alloc, name, args)?)?;
+    script.functions.push(declared_predicate(alloc, name, args)?)?;
     Ok(())
 }
 
@@ -201,6 +202,23 @@ fn take_predicate(alloc: Global, script: &mut Script, parts: &[Sexpr]) -> Result
             Some(args) => take_arguments(alloc, script, name, args),
             None => Err(ReadError::Refused(outside())),
         },
+        _ => Err(ReadError::Refused(outside())),
+    }
+}
+
+/// `(assert m)`.
+fn take_assertion(alloc: Global, script: &mut Script, parts: &[Sexpr]) -> Result<(), ReadError>
+    ensures { Takes result (with_assertion script.old parts.now) script.new }
+{
+    match parts {
+        [tree] => {
+            let formula = clause_of(alloc, script.functions.as_slice(), tree)?;
+            script.assertions.push(Assertion {
+                label: None,
+                formula,
+            })?;
+            Ok(())
+        }
         _ => Err(ReadError::Refused(outside())),
     }
 }
@@ -228,6 +246,8 @@ fn take_by_word(
         take_constant(alloc, script, parts)
     } else if is_symbol(head, b"declare-fun") {
         take_predicate(alloc, script, parts)
+    } else if is_symbol(head, b"assert") {
+        take_assertion(alloc, script, parts)
     } else if is_symbol(head, b"declare-sort") {
         take_sort(alloc, script, parts)
     } else if is_symbol(head, b"check-sat") {

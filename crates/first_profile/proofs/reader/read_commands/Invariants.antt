@@ -1,7 +1,7 @@
 use Rattle.std.proofs.Common.{◌≡◌, drop}
-use Rattle.mbqi_app.specs.Means.{trees_of}
-use Rattle.mbqi_app.specs.Profile.{after_commands, meaning_of}
-use Rattle.mbqi_app.proofs.profile.read_commands.Given as goal
+use Rattle.first_profile.specs.Means.{trees_of}
+use Rattle.first_profile.specs.Profile.{after_commands, meaning_of}
+use Rattle.first_profile.proofs.reader.read_commands.Given as goal
 
 -- the script so far, with the commands to come, is what all mean
 abbrev pub invariant-loop-form : goal.invariant-loop-form

@@ -2,9 +2,9 @@ use Rattle.std.proofs.Common.{◌≡◌, List, ap, sym, ◌∙◌, inl, inr}
 use Rattle.std.specs.Prelude.{None, Some}
 use Rattle.sexpr_text.specs.declared.tree.Form.{Form}
 use Rattle.mbqi_terms.specs.declared.script.Script.{Script}
-use Rattle.mbqi_app.specs.Profile.{meaning_of}
-use Rattle.mbqi_app.specs.Means.{trees_of}
-use Rattle.mbqi_app.proofs.profile.one_meaning.Goals as goal
+use Rattle.first_profile.specs.Profile.{meaning_of}
+use Rattle.first_profile.specs.Means.{trees_of}
+use Rattle.first_profile.proofs.reader.one_meaning.Goals as goal
 
 -- one list of forms means a script or none
 apart : (these those : List Form) (script : Script) → these ≡ those → meaning_of (trees_of these) ≡ Some script → meaning_of (trees_of those) ≡ None → ⊥

@@ -1,0 +1,5 @@
+pub mod Tree
+pub mod Profile
+pub mod Assertions
+pub mod Means
+pub mod Reads

@@ -1,0 +1,14 @@
+//! The first profile of scripts: one sort, its constants, predicates over it, and ground assertions.
+//!
+//! Start with [`read_script`], and with `specs/Profile.antt`, which says what a list of commands means. The assertions are
+//! read by `assertions`, the trees are viewed by `tree`, and `names` says which words may be declared.
+
+#![tactic(auto)]
+
+mod assertions;
+mod names;
+mod reader;
+mod tree;
+
+pub use names::RESERVED_WORDS;
+pub use reader::{one_meaning, read_script};
