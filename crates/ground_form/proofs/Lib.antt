@@ -1,0 +1,2 @@
+pub mod AtomTest
+pub mod Pools
