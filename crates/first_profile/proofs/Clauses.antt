@@ -33,8 +33,16 @@ names_stay : (functions more : List Function) (c : ℕ) → NamesConstant functi
 names_stay functions more c named = (named.0, stays functions more c named.0 named.1, named.2)
 
 atom_stays : (functions more : List Function) (t : Term) → IsAtom functions t → IsAtom (functions ++ more) t
-atom_stays functions more t is = (is.0, is.1, is.2, is.3, stays functions more is.0 is.1 is.4, is.5, is.6,
-  All-weaker (NamesConstant functions) (NamesConstant (functions ++ more)) (names_stay functions more) is.2 is.7)
+atom_stays functions more t is = (
+  is.0,
+  is.1,
+  is.2,
+  is.3,
+  stays functions more is.0 is.1 is.4,
+  is.5,
+  is.6,
+  All-weaker (NamesConstant functions) (NamesConstant (functions ++ more)) (names_stay functions more) is.2 is.7,
+)
 
 literal_stays : (functions more : List Function) (f : Formula) → IsLiteral functions f → IsLiteral (functions ++ more) f
 literal_stays functions more f is = (is.0, atom_stays functions more is.0 is.1, is.2)
@@ -115,9 +123,12 @@ abbrev GiveConstants : List Function → List Sexpr → List Term → Type 0
 GiveConstants functions trees ts = (cs : List ℕ) × (ts ≡ map constant cs) × (length cs ≡ length trees) × All (NamesConstant functions) cs
 
 one_more : (functions : List Function) (tree : Sexpr) (trees : List Sexpr) (t : Term) (ts us : List Term) → GivesConstant functions t → GiveConstants functions trees ts → t ∷ ts ≡ us → GiveConstants functions (tree ∷ trees) us
-one_more functions tree trees t ts us first rest e =
-    (first.0 ∷ rest.0, (let f : t ∷ ts ≡ constant first.0 ∷ map constant rest.0 = cc in sym e ∙ f), ap suc rest.2,
-      All-cons (NamesConstant functions) first.0 rest.0 first.2 rest.3)
+one_more functions tree trees t ts us first rest e = (
+  first.0 ∷ rest.0,
+  (let f : t ∷ ts ≡ constant first.0 ∷ map constant rest.0 = cc in sym e ∙ f),
+  ap suc rest.2,
+  All-cons (NamesConstant functions) first.0 rest.0 first.2 rest.3,
+)
 
 constants_read : (functions : List Function) (trees : List Sexpr) (ts : List Term) → AreDeclared functions → constants_of functions trees ≡ Some ts → GiveConstants functions trees ts
 constants_read functions [] ts all h = ([], (let e : ts ≡ [] = cc in e), refl, All-nil (NamesConstant functions))

@@ -71,11 +71,7 @@ fn constant_of(alloc: Global, functions: &[Function], tree: &Sexpr) -> Result<Te
 }
 
 /// The constants that the trees name, one each.
-fn constants_of(
-    alloc: Global,
-    functions: &[Function],
-    trees: &[Sexpr],
-) -> Result<Terms, ReadError>
+fn constants_of(alloc: Global, functions: &[Function], trees: &[Sexpr]) -> Result<Terms, ReadError>
     ensures { Reads result (constants_of functions.now trees.now) }
 {
     let mut constants = Items::new(alloc);
@@ -212,7 +208,9 @@ fn clause_of_parts(
 {
     match parts {
         [] => Err(ReadError::Refused(outside())),
-        [head, literals @ ..] if is_symbol(head, b"or") => disjunction_of(alloc, functions, literals),
+        [head, literals @ ..] if is_symbol(head, b"or") => disjunction_of(
+            alloc, functions, literals,
+        ),
         _ => literal_of_parts(alloc, functions, parts),
     }
 }

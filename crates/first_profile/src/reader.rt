@@ -190,7 +190,8 @@ fn take_arguments(
         return Err(ReadError::Refused(outside()));
     }
     let name = new_name(alloc, script, name)?;
-    script.functions.push(declared_predicate(alloc, name, args)?)?;
+    let predicate = declared_predicate(alloc, name, args)?;
+    script.functions.push(predicate)?;
     Ok(())
 }
 

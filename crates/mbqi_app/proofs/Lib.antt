@@ -1,6 +1,5 @@
 pub mod CommandForms
-pub mod ElementFits
-pub mod Elementary
 pub mod Puts
+pub mod Solutions
 pub mod Solved
 pub mod TextLines

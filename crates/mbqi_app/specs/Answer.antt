@@ -12,8 +12,13 @@ use Rattle.function_model.specs.declared.model.FunctionModel.{FunctionModel}
 use Rattle.function_model.specs.Fits.{Fits}
 use Rattle.function_model.specs.Holds.{Holds}
 use Rattle.mbqi_app.specs.Command.{Command, Solve, asked_for, files_of}
-use Rattle.mbqi_app.specs.Means.{Means}
+use Rattle.first_profile.specs.Means.{Means}
 use Rattle.mbqi_app.specs.ModelText.{model_text}
+use Rattle.mbqi_loop.specs.Refuted.{IsRefuted}
+use Rattle.mbqi_loop.specs.declared.outcome.Outcome.{Outcome}
+use Rattle.mbqi_loop.specs.declared.outcome.Outcome.TheVariants as outcome
+use Rattle.mbqi_terms.specs.declared.instance.InstanceLine.{InstanceLine}
+use Rattle.refutation_text.specs.Text.{refutation_text}
 
 -- How many bytes a file may have.
 abbrev pub file_limit : ℕ
@@ -25,9 +30,15 @@ IsSatText bytes text =
     (script : Script) × (model : FunctionModel) × Means bytes script × Fits script model × Holds model script
     × (text ≡ model_text script model)
 
+-- The text is that of refuted instances of the assertions of the script of the bytes.
+abbrev pub IsUnsatText : List ℕ → List ℕ → Type 0
+IsUnsatText bytes text =
+    (script : Script) × (lines : List InstanceLine) × Means bytes script × IsRefuted script lines × (text ≡ refutation_text script lines)
+
 -- What `solve` may write for a file, by its status.
 abbrev pub IsSolution : List ℕ → Status → List ℕ → Type 0
 IsSolution bytes Sat text = IsSatText bytes text
+IsSolution bytes Unsat text = IsUnsatText bytes text
 IsSolution bytes status text = ⊥
 
 -- What a command may write for the contents of its files, by its status.
@@ -64,6 +75,7 @@ IfScriptRefused status P = Unit {0}
 -- The statuses that `solve` has so far, and those of them that a file's bytes alone lead to.
 abbrev pub ComesFromBytes : Status → Type 0
 ComesFromBytes Sat = Unit {0}
+ComesFromBytes Unsat = Unit {0}
 ComesFromBytes (ScriptRefused refusal) = Unit {0}
 ComesFromBytes WriteFault = Unit {0}
 ComesFromBytes Memory = Unit {0}
@@ -101,6 +113,10 @@ TookAll before now text = now ≡ with_more before text
 
 abbrev pub TookFront : Option (List ℕ) → Option (List ℕ) → List ℕ → Type 0
 TookFront before now text = (n : ℕ) × (n < length text) × (now ≡ with_more before (take n text))
+
+-- The file has an answer with some status, of which a proper front was taken.
+abbrev pub SolvesFront : Files → List ℕ → Option (List ℕ) → Option (List ℕ) → Type 0
+SolvesFront files file before now = (status : Status) × Solves files file status (TookFront before now)
 
 -- The words' command has an answer with some status, of which a proper front was taken.
 abbrev pub AnswersFront : List (List ℕ) → Files → Option (List ℕ) → Option (List ℕ) → Type 0
@@ -145,10 +161,11 @@ AsksOne before now name = (now ≡ before) ⊎ (now ≡ with_more before (name �
 abbrev pub AskedFront : Option (List (List ℕ)) → Option (List (List ℕ)) → List (List ℕ) → Type 0
 AskedFront before now names = (n : ℕ) × (n ≤ length names) × (now ≡ with_more before (take n names))
 
--- How the counter rises: by the ground decisions behind the answer, of which a script without assertions needs
+-- How the counter rises: by the ground decisions behind the answer, of which a script without quantifiers needs
 -- one. Want of memory may come before or after it.
 abbrev pub Counts : Status → ℕ → ℕ → Type 0
 Counts Sat before now = now ≡ before + 1
+Counts Unsat before now = now ≡ before + 1
 Counts WriteFault before now = now ≡ before + 1
 Counts Memory before now = (before ≤ now) × (now ≤ before + 1)
 Counts status before now = now ≡ before
@@ -159,7 +176,23 @@ CountsReading (Ok text) before now = now ≡ before + 1
 CountsReading (Err error.Memory) before now = (before ≤ now) × (now ≤ before + 1)
 CountsReading (Err (error.Refused refusal)) before now = now ≡ before
 
--- The status, or want of memory, or a fault that was counted.
-abbrev pub IsOneOf : Status → Status → ℕ → ℕ → ℕ → ℕ → Type 0
-IsOneOf status wanted shelf_before shelf_now out_before out_now =
-    (status ≡ wanted) ⊎ ((status ≡ Memory) ⊎ (Rose shelf_before shelf_now ⊎ Rose out_before out_now))
+-- The status, or memory ran out, or the file couldn't be read.
+abbrev pub IsOneOf : Status → Status → Type 0
+IsOneOf status wanted = (status ≡ wanted) ⊎ ((status ≡ Memory) ⊎ (status ≡ ReadFault))
+
+-- An answer to the question, or memory ran out, or the answer couldn't be written.
+abbrev pub IsWritten : Status → Type 0
+IsWritten status = ((status ≡ Sat) ⊎ (status ≡ Unsat)) ⊎ ((status ≡ Memory) ⊎ (status ≡ WriteFault))
+
+-- The same, or the file couldn't be read.
+abbrev pub IsDecided : Status → Type 0
+IsDecided status = IsWritten status ⊎ (status ≡ ReadFault)
+
+-- The text of an outcome, and its status.
+abbrev pub outcome_text : Script → Outcome → List ℕ
+outcome_text script (outcome.Sat model) = model_text script model
+outcome_text script (outcome.Unsat lines) = refutation_text script lines
+
+abbrev pub status_of : Outcome → Status
+status_of (outcome.Sat model) = Sat
+status_of (outcome.Unsat lines) = Unsat

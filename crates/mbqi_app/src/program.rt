@@ -5,9 +5,9 @@ ghost use Rattle.mbqi_edge.specs.Faults.{Rose};
 ghost use Rattle.mbqi_edge.specs.Files.{Tells};
 ghost use Rattle.mbqi_edge.specs.Told.{with_more};
 ghost use Rattle.mbqi_app.specs.Command.{asked_for};
-ghost use Rattle.mbqi_app.specs.Answer.{Answers, AnswersFront, AskedFront, Counts, IfScriptRefused, Of, OfTold, IsOneOfAll, TookAll, file_limit, is_answered, is_silent, names_of, Gives, GivesLong, IsMeant, IsOneOf};
-ghost use Rattle.mbqi_app.specs.Means.{Refused, IsOutside};
-ghost use Rattle.mbqi_app.specs.Reads.{outside};
+ghost use Rattle.mbqi_app.specs.Answer.{Answers, AnswersFront, AskedFront, Counts, IfScriptRefused, Of, OfTold, IsOneOfAll, TookAll, file_limit, is_answered, is_silent, names_of, Gives, GivesLong, IsMeant, IsOneOf, IsDecided};
+ghost use Rattle.first_profile.specs.Means.{Refused, IsOutside};
+ghost use Rattle.first_profile.specs.Reads.{outside};
 ghost use Rattle.mbqi_app.specs.Told.{told_of, TookPart};
 
 use crate::command::file_of;
@@ -53,16 +53,18 @@ pub fn run<F: Shelf, W: Sink, E: Sink, L: Ledger>(
     // What is asked of the shelf, and what the answer cost.
     ensures files { F.files shelf.new ≡ F.files shelf.old }
     ensures asked { AskedFront (F.asked shelf.old) (F.asked shelf.new) (names_of (asked_for (map string_bytes words.now))) }
+    ensures all_asked { IsTrue (is_answered result)
+        → F.asked shelf.new ≡ with_more (F.asked shelf.old) (names_of (asked_for (map string_bytes words.now))) }
     ensures steps { Counts result steps.old steps.new }
 
     // A file that is read without a fault has the answer that its bytes call for, or memory runs out, or the answer can't be
     // written.
     ensures complete { Gives (map string_bytes words.now) (F.files shelf.old) IsMeant
-        → IsOneOf result Status.Sat (F.faults shelf.old) (F.faults shelf.new) (W.faults out.old) (W.faults out.new) }
+        → IsDecided result }
     ensures refuses { Gives (map string_bytes words.now) (F.files shelf.old) IsOutside
-        → IsOneOf result (Status.ScriptRefused outside) (F.faults shelf.old) (F.faults shelf.new) (W.faults out.old) (W.faults out.new) }
+        → IsOneOf result (Status.ScriptRefused outside) }
     ensures long { GivesLong (map string_bytes words.now) (F.files shelf.old)
-        → IsOneOf result Status.TooLong (F.faults shelf.old) (F.faults shelf.new) (W.faults out.old) (W.faults out.new) }
+        → IsOneOf result Status.TooLong }
 {
     let status = carry_out(alloc, words, shelf, out, steps);
     tell(err, &status);
@@ -91,13 +93,15 @@ fn carry_out<F: Shelf, W: Sink, L: Ledger>(
     ensures silent { IsTrue (is_silent result) → W.taken out.new ≡ W.taken out.old }
     ensures files { F.files shelf.new ≡ F.files shelf.old }
     ensures asked { AskedFront (F.asked shelf.old) (F.asked shelf.new) (names_of (asked_for (map string_bytes words.now))) }
+    ensures all_asked { IsTrue (is_answered result)
+        → F.asked shelf.new ≡ with_more (F.asked shelf.old) (names_of (asked_for (map string_bytes words.now))) }
     ensures steps { Counts result steps.old steps.new }
     ensures complete { Gives (map string_bytes words.now) (F.files shelf.old) IsMeant
-        → IsOneOf result Status.Sat (F.faults shelf.old) (F.faults shelf.new) (W.faults out.old) (W.faults out.new) }
+        → IsDecided result }
     ensures refuses { Gives (map string_bytes words.now) (F.files shelf.old) IsOutside
-        → IsOneOf result (Status.ScriptRefused outside) (F.faults shelf.old) (F.faults shelf.new) (W.faults out.old) (W.faults out.new) }
+        → IsOneOf result (Status.ScriptRefused outside) }
     ensures long { GivesLong (map string_bytes words.now) (F.files shelf.old)
-        → IsOneOf result Status.TooLong (F.faults shelf.old) (F.faults shelf.new) (W.faults out.old) (W.faults out.new) }
+        → IsOneOf result Status.TooLong }
 {
     match file_of(words) {
         Some(file) => solve(alloc, file, shelf, out, steps),

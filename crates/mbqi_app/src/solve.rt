@@ -1,19 +1,22 @@
-//! `solve`: from the bytes of a script to a model.
+//! `solve`: from the bytes of a script to a model, or to instances that are refuted.
 
-ghost use Rattle.std.specs.Prelude.{◌≡◌, ◌+◌, ◌≤◌, ◌<◌, ◌⊎◌, ℕ, List, length, IfOk, IsTrue};
+ghost use Rattle.std.specs.Prelude.{◌≡◌, ◌+◌, ◌++◌, ◌≤◌, ◌<◌, ◌⊎◌, ◌∷◌, [], ℕ, List, length, IfOk, IsTrue};
 ghost use Rattle.sexpr_text.specs.Forms.{IfRefused};
 ghost use Rattle.mbqi_edge.specs.Faults.{Rose};
 ghost use Rattle.mbqi_edge.specs.Files.{Has, Tells};
-ghost use Rattle.mbqi_app.specs.Answer.{IsSatText, IsSolution, is_answered, is_silent, file_limit, IfScriptRefused, Counts, Solves, TookAll, TookFront, AsksOne, CountsReading, Comes, ComesFromBytes, GivesFile, IsMeant, IsOneOf};
-ghost use Rattle.mbqi_app.specs.Means.{Refused, IsOutside};
-ghost use Rattle.mbqi_app.specs.Reads.{outside};
+ghost use Rattle.mbqi_edge.specs.Told.{with_more};
+ghost use Rattle.mbqi_app.specs.Answer.{IsSolution, is_answered, is_silent, file_limit, IfScriptRefused, Counts, Solves, SolvesFront, TookAll, TookFront, AsksOne, CountsReading, Comes, ComesFromBytes, GivesFile, IsMeant, IsOneOf, IsWritten, IsDecided, outcome_text, status_of};
+ghost use Rattle.first_profile.specs.Means.{Refused, IsOutside};
+ghost use Rattle.first_profile.specs.Reads.{outside};
 
-use crate::elements::element_model;
 use crate::model_text::write_model;
-use crate::profile::{one_meaning, read_script};
+use first_profile::{one_meaning, read_script};
 use mbqi_edge::{FetchFault, Shelf, Sink, put_all};
+use mbqi_loop::{Outcome, solve_rules};
+use mbqi_terms::Script;
 use mbqi_values::{ReadError, Status, Steps};
-use std::alloc::Global;
+use refutation_text::write_refutation;
+use std::alloc::{AllocError, Global};
 use std::sync::ledger::Ledger;
 
 /// How many bytes a file may have.
@@ -33,20 +36,21 @@ pub fn solve<F: Shelf, W: Sink, L: Ledger>(
     ensures answer { IsTrue (is_answered result)
         → Solves (F.files shelf.old) file.now result (TookAll (W.taken out.old) (W.taken out.new)) }
     ensures write_fault { result ≡ Status.WriteFault → Rose (W.faults out.old) (W.faults out.new)
-        × Solves (F.files shelf.old) file.now Status.Sat (TookFront (W.taken out.old) (W.taken out.new)) }
+        × SolvesFront (F.files shelf.old) file.now (W.taken out.old) (W.taken out.new) }
     ensures silent { IsTrue (is_silent result) → W.taken out.new ≡ W.taken out.old }
     ensures comes { Comes result }
 
     ensures files { F.files shelf.new ≡ F.files shelf.old }
     ensures asked { AsksOne (F.asked shelf.old) (F.asked shelf.new) file.now }
+    ensures all_asked { IsTrue (is_answered result) → F.asked shelf.new ≡ with_more (F.asked shelf.old) (file.now ∷ []) }
     ensures steps { Counts result steps.old steps.new }
 
     ensures complete { GivesFile (F.files shelf.old) file.now (λ bytes. (length bytes ≤ file_limit) × IsMeant bytes)
-        → IsOneOf result Status.Sat (F.faults shelf.old) (F.faults shelf.new) (W.faults out.old) (W.faults out.new) }
+        → IsDecided result }
     ensures refuses { GivesFile (F.files shelf.old) file.now (λ bytes. (length bytes ≤ file_limit) × IsOutside bytes)
-        → IsOneOf result (Status.ScriptRefused outside) (F.faults shelf.old) (F.faults shelf.new) (W.faults out.old) (W.faults out.new) }
+        → IsOneOf result (Status.ScriptRefused outside) }
     ensures long { GivesFile (F.files shelf.old) file.now (λ bytes. file_limit < length bytes)
-        → IsOneOf result Status.TooLong (F.faults shelf.old) (F.faults shelf.new) (W.faults out.old) (W.faults out.new) }
+        → IsOneOf result Status.TooLong }
 {
     let mut bytes = Vec::new(alloc);
     match shelf.fetch(alloc, file, FILE_LIMIT, &mut bytes) {
@@ -68,17 +72,17 @@ fn answer<W: Sink, L: Ledger>(
     ensures answer { IsTrue (is_answered result) → (text : List ℕ) × IsSolution bytes.now result text
         × TookAll (W.taken out.old) (W.taken out.new) text }
     ensures write_fault { result ≡ Status.WriteFault → Rose (W.faults out.old) (W.faults out.new)
-        × ((text : List ℕ) × IsSatText bytes.now text × TookFront (W.taken out.old) (W.taken out.new) text) }
+        × ((status : Status) × (text : List ℕ) × IsSolution bytes.now status text × TookFront (W.taken out.old) (W.taken out.new) text) }
     ensures silent { IsTrue (is_silent result) → W.taken out.new ≡ W.taken out.old }
     ensures comes { ComesFromBytes result }
     ensures steps { Counts result steps.old steps.new }
-    ensures complete { IsMeant bytes.now → (result ≡ Status.Sat) ⊎ ((result ≡ Status.Memory) ⊎ Rose (W.faults out.old) (W.faults out.new)) }
+    ensures complete { IsMeant bytes.now → IsWritten result }
     ensures refuses { IsOutside bytes.now → (result ≡ Status.ScriptRefused outside) ⊎ (result ≡ Status.Memory) }
 {
     one_meaning();
-    match answer_text(alloc, bytes, steps) {
-        Ok(text) => match put_all(out, text.as_slice()) {
-            Ok(()) => Status::Sat,
+    match read_answer(alloc, bytes, steps) {
+        Ok(answer) => match put_all(out, answer.text.as_slice()) {
+            Ok(()) => answer.status,
             Err(_) => Status::WriteFault,
         },
         Err(ReadError::Refused(refusal)) => Status::ScriptRefused(refusal),
@@ -86,20 +90,48 @@ fn answer<W: Sink, L: Ledger>(
     }
 }
 
-/// The answer to the script of the bytes, whole.
-fn answer_text<L: Ledger>(
+/// An answer, whole: its status and its text.
+#[derive(Drop)]
+struct Answer {
+    status: Status,
+    text: Vec<u8>,
+}
+
+/// The answer to the script of the bytes.
+fn read_answer<L: Ledger>(
     alloc: Global,
     bytes: &[u8],
     steps: &mut Steps<L>,
-) -> Result<Vec<u8>, ReadError>
-    ensures text { IfOk result (λ text. IsSatText bytes.now text.items) }
+) -> Result<Answer, ReadError>
+    ensures text { IfOk result (λ answer. IsSolution bytes.now answer.status answer.text.items) }
     ensures refused { IfRefused result (λ refusal. Refused bytes.now refusal) }
     ensures steps { CountsReading result steps.old steps.new }
 {
     let script = read_script(alloc, bytes)?;
-    steps.tick();
-    let model = element_model(alloc, &script)?;
+    let outcome = solve_rules(alloc, &script, steps)?;
+    Ok(answer_of(alloc, &script, &outcome)?)
+}
+
+/// The status and the text of an outcome.
+fn answer_of(alloc: Global, script: &Script, outcome: &Outcome) -> Result<Answer, AllocError>
+    ensures status { IfOk result (λ answer. answer.status ≡ status_of outcome.now) }
+    ensures text { IfOk result (λ answer. answer.text.items ≡ outcome_text script.now outcome.now) }
+{
     let mut text = Vec::new(alloc);
-    write_model(&script, &model, &mut text)?;
-    Ok(text)
+    match outcome {
+        Outcome::Sat(model) => {
+            write_model(script, model, &mut text)?;
+            Ok(Answer {
+                status: Status::Sat,
+                text,
+            })
+        }
+        Outcome::Unsat(lines) => {
+            write_refutation(script, lines.as_slice(), &mut text)?;
+            Ok(Answer {
+                status: Status::Unsat,
+                text,
+            })
+        }
+    }
 }

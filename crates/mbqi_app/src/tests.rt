@@ -3,7 +3,10 @@
 
 ghost use Rattle.std.specs.Prelude.{◌≡◌, ◌<◌};
 
+mod scripts;
+
 use crate::run;
+use crate::tests::scripts::Case;
 use mbqi_edge::{FetchFault, MemoryShelf, MemorySink, Shelf};
 use mbqi_values::{FaultKind, Numbers, Refusal, Status, Steps, Text, Texts};
 use std::alloc::{AllocError, Global};
@@ -18,7 +21,7 @@ const FILE: &str = "script";
 const SOLVE: &str = "solve script";
 
 /// Room for each text of these tests.
-const AMPLE: usize = 1000;
+const AMPLE: usize = 4000;
 
 /// A script without anything but the question, and its answer.
 const QUESTION: &str = "(check-sat)";
@@ -154,6 +157,33 @@ fn scripts_have_models(rt: HostRuntime) -> Result<(), Fail> {
     Ok(())
 }
 
+/// The scripts with ground assertions.
+const DECIDED: [&Case; 8] = [
+    &scripts::CONTRADICTING_UNITS,
+    &scripts::BROKEN_CHAIN,
+    &scripts::CHAIN,
+    &scripts::PIGEONS,
+    &scripts::TWO_PIGEONS,
+    &scripts::TWICE,
+    &scripts::PAIRS,
+    &scripts::SPREAD,
+];
+
+#[test]
+fn ground_assertions_are_decided(rt: HostRuntime) -> Result<(), Fail> {
+    let alloc = rt.alloc();
+    for case in DECIDED {
+        let call = call_run(alloc, SOLVE, shelf_of(alloc, case.script, &[])?, AMPLE)?;
+        let status = if case.answer.starts_with("sat") {
+            Status::Sat
+        } else {
+            Status::Unsat
+        };
+        assert_ended(&rt, &call, status, case.answer, "");
+    }
+    Ok(())
+}
+
 #[test]
 fn other_words_are_no_command(rt: HostRuntime) -> Result<(), Fail> {
     let alloc = rt.alloc();
@@ -228,6 +258,15 @@ fn scripts_outside_the_profile_are_refused(rt: HostRuntime) -> Result<(), Fail> 
         "(declare-sort S 0)(declare-fun p () Bool)",
         "(declare-sort S 0)(declare-fun f (S) S)",
         "(declare-sort S 0)(declare-fun p (S) Bool)(assert (forall ((x S)) (p x)))",
+        "(declare-sort S 0)(declare-const c S)(declare-fun p (S) Bool)(assert (or (p c)))",
+        "(declare-sort S 0)(declare-const c S)(declare-fun p (S) Bool)(assert (p d))",
+        "(declare-sort S 0)(declare-const c S)(declare-fun p (S) Bool)(assert (p p))",
+        "(declare-sort S 0)(declare-const c S)(declare-fun p (S) Bool)(assert (p c c))",
+        "(declare-sort S 0)(declare-const c S)(declare-fun p (S) Bool)(assert (not (not (p c))))",
+        "(declare-sort S 0)(declare-const c S)(declare-fun p (S) Bool)(assert (and (p c) (p c)))",
+        "(declare-sort S 0)(declare-const c S)(declare-fun p (S) Bool)(assert (p c) (p c))",
+        "(declare-sort S 0)(declare-const c S)(declare-fun p (S) Bool)(assert p)",
+        "(declare-sort S 0)(declare-const c S)(assert (c))",
         "(check-sat 0)",
         "(check-sat)(check-sat)",
         "(check-sat)(declare-sort S 0)",

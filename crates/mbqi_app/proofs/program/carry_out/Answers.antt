@@ -1,5 +1,4 @@
 use Rattle.std.proofs.Common.{map, string_bytes}
-use Rattle.mbqi_values.specs.declared.status.Status.TheVariants.{Sat}
 use Rattle.mbqi_app.specs.Answer.{TookAll, TookFront}
 use Rattle.mbqi_app.proofs.Solved.{solved}
 use Rattle.mbqi_app.proofs.program.carry_out.Goals as goal
@@ -14,8 +13,8 @@ returns-in-Some-clause-write_fault g c fault =
     let found = c.solve.ensures.write_fault fault in (
       found.0,
       (
-        Sat,
-        solved (map string_bytes c.args.words.now) (g.F.Shelf.files c.args.shelf.now) c.in-Some.file.now Sat
-            (TookFront (g.W.Sink.taken c.args.out.now) (g.W.Sink.taken c.solve.new.out)) c.in-Some.ensures found.1,
+        found.1.0,
+        solved (map string_bytes c.args.words.now) (g.F.Shelf.files c.args.shelf.now) c.in-Some.file.now found.1.0
+            (TookFront (g.W.Sink.taken c.args.out.now) (g.W.Sink.taken c.solve.new.out)) c.in-Some.ensures found.1.1,
       ),
     )

@@ -1,8 +1,0 @@
-use Rattle.std.proofs.Common.{append_assoc}
-use Rattle.mbqi_app.proofs.ElementFits.{elements_next}
-use Rattle.mbqi_app.proofs.elements.every_element.Goals as goal
-
--- the element that is pushed is the next one
-pub loop-element-preserved : goal.loop-element-preserved
-loop-element-preserved c =
-    rw (c.in_ok-push.ensures.items, append_assoc, ← elements_next c.loop-element.element c.args.size c.loop-element-test.true) c.loop-element.invariant
