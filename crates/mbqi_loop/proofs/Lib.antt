@@ -1,0 +1,5 @@
+pub mod Itself
+pub mod Atoms
+pub mod Holding
+pub mod Agreement
+pub mod Lines
