@@ -1,2 +1,4 @@
 pub mod Profile
 pub mod Atoms
+pub mod Numbering
+pub mod PoolSteps

@@ -6,7 +6,9 @@
 #![tactic(auto)]
 
 pub mod atoms;
+pub mod clauses;
 pub mod pool;
 
-pub use atoms::GroundAtom;
-pub use pool::Pool;
+pub use atoms::{AtomTable, GroundAtom};
+pub use clauses::clauses_of;
+pub use pool::{Pool, pool_of};

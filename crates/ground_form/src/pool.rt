@@ -1,7 +1,13 @@
 //! The ground terms that stand for elements.
 
-use mbqi_terms::Terms;
+ghost use Rattle.std.specs.Prelude.{◌≡◌, [], IfOk, OnOk};
+ghost use Rattle.ground_form.specs.Atoms.{IsPool};
+ghost use Rattle.ground_form.specs.PoolSteps.{pool_with};
+ghost use Rattle.ground_form.specs.Profile.{is_constant, constant};
+
+use mbqi_terms::{Function, Sort, Symbol, Term, Terms};
 use mbqi_values::Numbers;
+use std::alloc::{AllocError, Global};
 
 /// The constants of a script as terms, in order of their declarations, and for each function, by its number, the number
 /// of its term among them: 0 where it is no constant.
@@ -9,4 +15,42 @@ use mbqi_values::Numbers;
 pub struct Pool {
     pub terms: Terms,
     pub numbers: Numbers,
+}
+
+/// The pool of a script's functions. The one error is want of memory.
+pub fn pool_of(alloc: Global, functions: &[Function]) -> Result<Pool, AllocError>
+    ensures { IfOk result (λ pool. IsPool functions.now pool) }
+{
+    let mut pool = Pool {
+        terms: Terms::new(alloc),
+        numbers: Numbers::new(alloc),
+    };
+    for function in functions {
+        push_function(alloc, &mut pool, function)?;
+    }
+    Ok(pool)
+}
+
+// Adds the next function to a pool of the functions before it.
+fn push_function(alloc: Global, pool: &mut Pool, function: &Function) -> Result<(), AllocError>
+    ensures { OnOk result (pool.new ≡ pool_with pool.old function.now) }
+{
+    if !is_constant(function) {
+        return pool.numbers.push(0);
+    }
+    let term = constant(alloc, pool.numbers.len());
+    pool.numbers.push(pool.terms.len())?;
+    pool.terms.push(term)
+}
+
+fn is_constant(function: &Function) -> bool
+    ensures { result ≡ is_constant function.now }
+{
+    matches!(function.result, Sort::Elem(_))
+}
+
+fn constant(alloc: Global, number: usize) -> Term
+    ensures { result ≡ constant number }
+{
+    Term::Apply(Symbol::Declared(number), Terms::new(alloc))
 }

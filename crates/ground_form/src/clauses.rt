@@ -1,0 +1,180 @@
+//! Clauses of ground formulas.
+
+ghost use Rattle.std.specs.Prelude.{◌≡◌, length, slice_get, Some, All, IfOk};
+ghost use Rattle.std.specs.List.{AllZip, list_all};
+ghost use Rattle.clause_search.specs.Clauses.{all_true, AreBelow};
+ghost use Rattle.function_model.specs.TruthOf.{Meanings, truth_of};
+ghost use Rattle.mbqi_terms.specs.declared.term.Symbol.TheVariants as symbol;
+ghost use Rattle.mbqi_terms.specs.declared.term.Term.TheVariants as term;
+ghost use Rattle.ground_form.specs.Atoms.{truths_by, IsOver, IsPool};
+ghost use Rattle.ground_form.specs.Numbering.{Extends, IsDeclared, IsNumbered, IsNumberOf, IsAtomOf, IsLitOf, IsClauseOf};
+ghost use Rattle.ground_form.specs.Profile.{IsClause, IsLiteral, IsAtom};
+
+use crate::atoms::{AtomTable, GroundAtom};
+use crate::pool::Pool;
+use clause_search::{LitLists, Lits};
+use mbqi_terms::{Formula, Function, Symbol, Term, TermId, TermIds};
+use mbqi_values::Lit;
+use std::alloc::{AllocError, Global};
+
+/// The clauses of ground formulas over the pool of the functions, one for each formula in order. Their atoms are numbered
+/// by the table, which keeps those that it has and takes the new ones. The one error is want of memory, after which
+/// the table may have new atoms.
+pub fn clauses_of(
+    alloc: Global,
+    functions: &[Function],
+    pool: &Pool,
+    table: &mut AtomTable,
+    formulas: &[Formula],
+) -> Result<LitLists, AllocError>
+    requires pool { IsPool functions.now pool.now }
+    requires clauses { All (IsClause functions.now) formulas.now }
+    requires over { All (IsOver functions.now pool.now.terms) table.old }
+    ensures below { IfOk result (AreBelow (length table.new)) }
+    ensures truth { IfOk result (λ clauses. (m : Meanings) →
+        all_true (truths_by m pool.now.terms table.new) clauses ≡ list_all (truth_of m) formulas.now) }
+    ensures over { All (IsOver functions.now pool.now.terms) table.new }
+    ensures kept { Extends table.old table.new }
+{
+    let mut clauses = LitLists::new(alloc);
+    for formula in formulas {
+        let clause = clause_of(alloc, functions, pool, table, formula)?;
+        clauses.push(clause)?;
+    }
+    Ok(clauses)
+}
+
+// The clause of a literal or of a disjunction of literals.
+fn clause_of(
+    alloc: Global,
+    functions: &[Function],
+    pool: &Pool,
+    table: &mut AtomTable,
+    formula: &Formula,
+) -> Result<Lits, AllocError>
+    requires pool { IsPool functions.now pool.now }
+    requires clause { IsClause functions.now formula.now }
+    requires over { All (IsOver functions.now pool.now.terms) table.old }
+    ensures clause { IfOk result (λ lits. IsClauseOf pool.now.terms table.new lits formula.now) }
+    ensures over { All (IsOver functions.now pool.now.terms) table.new }
+    ensures kept { Extends table.old table.new }
+{
+    match formula {
+        Formula::Any(literals) => { lits_of(alloc, functions, pool, table, literals.as_slice()) }
+        _ => {
+            let lit = literal_of(alloc, functions, pool, table, formula)?;
+            Lits::from_slice(alloc, &[lit])
+        }
+    }
+}
+
+// The literals of a list.
+fn lits_of(
+    alloc: Global,
+    functions: &[Function],
+    pool: &Pool,
+    table: &mut AtomTable,
+    literals: &[Formula],
+) -> Result<Lits, AllocError>
+    requires pool { IsPool functions.now pool.now }
+    requires literals { All (IsLiteral functions.now) literals.now }
+    requires over { All (IsOver functions.now pool.now.terms) table.old }
+    ensures lits { IfOk result (λ lits. AllZip (IsLitOf pool.now.terms table.new) lits literals.now) }
+    ensures over { All (IsOver functions.now pool.now.terms) table.new }
+    ensures kept { Extends table.old table.new }
+{
+    let mut lits = Lits::new(alloc);
+    for literal in literals {
+        let lit = literal_of(alloc, functions, pool, table, literal)?;
+        lits.push(lit)?;
+    }
+    Ok(lits)
+}
+
+// The literal of an atom or of its negation.
+fn literal_of(
+    alloc: Global,
+    functions: &[Function],
+    pool: &Pool,
+    table: &mut AtomTable,
+    literal: &Formula,
+) -> Result<Lit, AllocError>
+    requires pool { IsPool functions.now pool.now }
+    requires literal { IsLiteral functions.now literal.now }
+    requires over { All (IsOver functions.now pool.now.terms) table.old }
+    ensures lit { IfOk result (λ lit. IsLitOf pool.now.terms table.new lit literal.now) }
+    ensures over { All (IsOver functions.now pool.now.terms) table.new }
+    ensures kept { Extends table.old table.new }
+{
+    match literal {
+        Formula::Atom(t) => {
+            let atom = atom_of(alloc, functions, pool, table, t)?;
+            Ok(Lit { atom, yes: true })
+        }
+        Formula::Not(negated) => {
+            let Formula::Atom(t) = negated.get() else {
+                unreachable!()
+            };
+            let atom = atom_of(alloc, functions, pool, table, t)?;
+            Ok(Lit { atom, yes: false })
+        }
+        _ => unreachable!(),
+    }
+}
+
+// The number of an atom.
+fn atom_of(
+    alloc: Global,
+    functions: &[Function],
+    pool: &Pool,
+    table: &mut AtomTable,
+    t: &Term,
+) -> Result<usize, AllocError>
+    requires pool { IsPool functions.now pool.now }
+    requires atom { IsAtom functions.now t.now }
+    requires over { All (IsOver functions.now pool.now.terms) table.old }
+    ensures atom { IfOk result (λ atom. IsAtomOf pool.now.terms table.new atom t.now) }
+    ensures over { All (IsOver functions.now pool.now.terms) table.new }
+    ensures kept { Extends table.old table.new }
+{
+    let (predicate, args) = declared(t);
+    let args = numbers_of(alloc, pool, args)?;
+    table.number(GroundAtom { predicate, args })
+}
+
+// The numbers of constants in the pool.
+fn numbers_of(alloc: Global, pool: &Pool, constants: &[Term]) -> Result<TermIds, AllocError>
+    requires { All (IsNumbered pool.now) constants.now }
+    ensures { IfOk result (λ ids. AllZip (IsNumberOf pool.now.terms) ids constants.now) }
+{
+    let mut ids = TermIds::new(alloc);
+    for constant in constants {
+        ids.push(number_of(pool, constant))?;
+    }
+    Ok(ids)
+}
+
+fn number_of(pool: &Pool, constant: &Term) -> TermId
+    requires { IsNumbered pool.now constant.now }
+    ensures { IsNumberOf pool.now.terms result constant.now }
+{
+    let (number, _) = declared(constant);
+    let Some(place) = pool.numbers.get(number) else {
+        unreachable!()
+    };
+    TermId(*place)
+}
+
+// The number of the declared function that a term applies, and its arguments.
+fn declared(t: &Term) -> (usize, &[Term])
+    requires { IsDeclared t.now }
+    ensures { t.now ≡ term.Apply (symbol.Declared result.0) result.1.now }
+{
+    let Term::Apply(symbol, args) = t else {
+        unreachable!()
+    };
+    let Symbol::Declared(number) = symbol else {
+        unreachable!()
+    };
+    (*number, args.as_slice())
+}
