@@ -3,7 +3,10 @@ use Rattle.std.proofs.Common.{◌≡◌, ℕ, zero, suc, ◌+◌, ◌<◌, inl, 
 use Rattle.std.specs.List.{All, AllZip}
 use Rattle.std.proofs.lemmas.List.{length-map}
 use Rattle.std.proofs.lemmas.List.Elements.{All-push}
-use Rattle.std.proofs.lemmas.Option.{slice_get_within, get_or_from_slice_get}
+use Rattle.std.proofs.lemmas.Option.{slice_get_within, get_or_from_slice_get, slice_get_read, slice_get-map}
+use Rattle.std.specs.Prelude.{slice_index_or}
+use Rattle.std.specs.Option.{option_map}
+use Rattle.mbqi_terms.specs.declared.instance.InstanceLine.{InstanceLine}
 use Rattle.mbqi_values.specs.declared.lit.Lit.{Lit}
 use Rattle.mbqi_terms.specs.Distinct.{Puts}
 use Rattle.mbqi_terms.specs.Store.{tree_at}
@@ -18,7 +21,7 @@ use Rattle.mbqi_terms.specs.declared.term_id.TermId.{TermId}
 use Rattle.mbqi_terms.proofs.Levels.{out-apply, out-declared}
 use Rattle.mbqi_terms.proofs.Trees.{get_seam, get_take, take-push}
 use Rattle.mbqi_terms.proofs.Zips.{zip_length, zip_push}
-use Rattle.ground_form.specs.Atoms.{IsOver, IsPool}
+use Rattle.ground_form.specs.Atoms.{IsOver, IsPool, formulas_in}
 use Rattle.ground_form.specs.Numbering.{Extends, IsNumbered, IsNumberOf, IsAtomOf, IsLitOf, IsClauseOf}
 use Rattle.ground_form.specs.Profile.{IsAtom, NamesConstant, constant}
 use Rattle.ground_form.specs.declared.atoms.GroundAtom.{GroundAtom}
@@ -148,3 +151,13 @@ module _ (terms : List Term) (old new : List GroundAtom) (extends : Extends old 
   clauses_grow [] (f ∷ fs) zip = absurd zip
   clauses_grow (c ∷ clauses) [] zip = absurd zip
   clauses_grow (c ∷ clauses) (f ∷ fs) zip = (clause_grows c f zip.0, clauses_grow clauses fs zip.1)
+
+-- the formula of the instance at a place stands at that place among the formulas
+pub formula_there : (lines : List InstanceLine) (i : ℕ) (line : InstanceLine) → i < length lines → line ≡ slice_index_or lines i line
+    → slice_get (formulas_in lines) i ≡ Some line.formula
+formula_there lines i line within is =
+    slice_get-map (λ (l : InstanceLine). l.formula) lines i ∙ ap (option_map (λ (l : InstanceLine). l.formula)) (slice_get_read lines (length lines) i line refl within is)
+
+-- what holds of each element holds of the one at a place
+pub there_holds : {X : Type 0} (P : X → Type 0) (xs : List X) (i : ℕ) (x : X) → slice_get xs i ≡ Some x → All P xs → P x
+there_holds P xs i x there all = subst P (get_or_from_slice_get xs i x x there) (all i x (slice_get_within xs i x there))

@@ -3,3 +3,4 @@ pub mod Atoms
 pub mod Holding
 pub mod Agreement
 pub mod Lines
+pub mod Decided

@@ -7,7 +7,9 @@ use Rattle.mbqi_terms.specs.declared.instance.InstanceLine.{InstanceLine}
 use Rattle.mbqi_terms.specs.declared.script.Assertion.{Assertion}
 use Rattle.mbqi_terms.specs.declared.script.Script.{Script}
 use Rattle.function_model.specs.TruthOf.{Meanings, truth_of}
+use Rattle.ground_form.specs.Atoms.{formulas_in}
 use Rattle.ground_form.specs.Profile.{IsClause, IsElementary}
+use Rattle.mbqi_terms.specs.declared.formula.Formula.{Formula}
 use Rattle.mbqi_loop.specs.Instance.{IsInstance}
 use Rattle.mbqi_loop.specs.Outcome.{instances_from}
 use Rattle.mbqi_loop.specs.Refuted.{IsRefuted}
@@ -16,15 +18,14 @@ use Rattle.mbqi_loop.proofs.Itself.{assertion_itself}
 -- the instances are clauses where the assertions are
 pub lines_are_clauses : (script : Script) (k : ℕ) (assertions : List Assertion)
     → AllByRecursion (λ (assertion : Assertion). IsClause script.functions assertion.formula) assertions
-    → All (λ (line : InstanceLine). IsClause script.functions line.formula) (instances_from k assertions)
-lines_are_clauses script k [] all = All-nil (λ (line : InstanceLine). IsClause script.functions line.formula)
+    → All (IsClause script.functions) (formulas_in (instances_from k assertions))
+lines_are_clauses script k [] all = All-nil (IsClause script.functions)
 lines_are_clauses script k (a ∷ assertions) all =
-    All-cons (λ (line : InstanceLine). IsClause script.functions line.formula) (record { assertion = k; terms = []; formula = a.formula })
-    (instances_from (k + 1) assertions) all.0 (lines_are_clauses script (k + 1) assertions all.1)
+    All-cons (IsClause script.functions) a.formula (formulas_in (instances_from (k + 1) assertions)) all.0 (lines_are_clauses script (k + 1) assertions all.1)
 
 -- they are true where the assertions are
 pub lines_are_true : (m : Meanings) (k : ℕ) (assertions : List Assertion)
-    → list_all (λ (line : InstanceLine). truth_of m line.formula) (instances_from k assertions)
+    → list_all (truth_of m) (formulas_in (instances_from k assertions))
     ≡ list_all (λ (assertion : Assertion). truth_of m assertion.formula) assertions
 lines_are_true m k [] = refl
 lines_are_true m k (a ∷ assertions) = ap (λ b. truth_of m a.formula && b) (lines_are_true m (k + 1) assertions)
@@ -60,14 +61,14 @@ by_first : (m : Meanings) (line : InstanceLine) (lines : List InstanceLine) (b c
 by_first m line lines true c e h rest = behind m line lines (rest h)
 by_first m line lines false c e h rest = in_front m line lines e
 
-a_false_one : (m : Meanings) (lines : List InstanceLine) → list_all (λ (line : InstanceLine). truth_of m line.formula) lines ≡ false → FalseOne m lines
+a_false_one : (m : Meanings) (lines : List InstanceLine) → list_all (truth_of m) (formulas_in lines) ≡ false → FalseOne m lines
 a_false_one m [] h = cc
 a_false_one m (line ∷ lines) h =
-    by_first m line lines (truth_of m line.formula) (list_all (λ (other : InstanceLine). truth_of m other.formula) lines) refl h (a_false_one m lines)
+    by_first m line lines (truth_of m line.formula) (list_all (truth_of m) (formulas_in lines)) refl h (a_false_one m lines)
 
 -- the assertions of a script are refuted where no valuation makes all of them true
 pub assertions_refuted : (script : Script) → IsElementary script
-    → ((m : Meanings) → list_all (λ (line : InstanceLine). truth_of m line.formula) (instances_from 0 script.assertions) ≡ false)
+    → ((m : Meanings) → list_all (truth_of m) (formulas_in (instances_from 0 script.assertions)) ≡ false)
     → IsRefuted script (instances_from 0 script.assertions)
 assertions_refuted script is closed = record {
   instances = lines_are_instances script 0 script.assertions

@@ -6,6 +6,7 @@
 #![tactic(auto)]
 
 mod decision;
+mod instances;
 pub mod outcome;
 mod solve;
 

@@ -4,12 +4,13 @@ ghost use Rattle.std.specs.Prelude.{◌≡◌, ◌+◌, IfOk};
 ghost use Rattle.function_model.specs.Fits.{Fits};
 ghost use Rattle.function_model.specs.Holds.{Holds};
 ghost use Rattle.ground_form.specs.Profile.{IsElementary};
-ghost use Rattle.mbqi_loop.specs.Outcome.{IfSat, IfUnsat, instances_from};
+ghost use Rattle.mbqi_loop.specs.Outcome.{IfSat, IfUnsat};
 ghost use Rattle.mbqi_loop.specs.Refuted.{IsRefuted};
 
 use crate::decision::decide;
+use crate::instances::first_instances;
 use crate::outcome::Outcome;
-use mbqi_terms::{Assertion, InstanceLine, InstanceLines, Script, Terms, copy_formula};
+use mbqi_terms::Script;
 use mbqi_values::Steps;
 use std::alloc::{AllocError, Global};
 use std::sync::ledger::Ledger;
@@ -30,19 +31,4 @@ pub fn solve_rules<L: Ledger>(
     steps.tick();
     let lines = first_instances(alloc, script.assertions.as_slice())?;
     decide(alloc, script, lines)
-}
-
-/// The instances of assertions without quantifiers: each assertion itself.
-fn first_instances(alloc: Global, assertions: &[Assertion]) -> Result<InstanceLines, AllocError>
-    ensures { IfOk result (λ lines. lines ≡ instances_from 0 assertions.now) }
-{
-    let mut lines = InstanceLines::new(alloc);
-    for (number, assertion) in assertions.iter().enumerate() {
-        lines.push(InstanceLine {
-            assertion: number,
-            terms: Terms::new(alloc),
-            formula: copy_formula(alloc, &assertion.formula)?,
-        })?;
-    }
-    Ok(lines)
 }

@@ -1,6 +1,6 @@
 use Rattle.std.proofs.Common.{◌≡◌, ◌++◌, drop}
 use Rattle.mbqi_loop.specs.Outcome.{instances_from}
-use Rattle.mbqi_loop.proofs.solve.first_instances.Given as goal
+use Rattle.mbqi_loop.proofs.instances.first_instances.Given as goal
 
 -- the instances so far and those of the assertions to come are all
 abbrev pub invariant-loop-number : goal.invariant-loop-number
