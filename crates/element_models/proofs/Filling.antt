@@ -1,9 +1,9 @@
 -- Tables with more rows.
-use Rattle.std.proofs.Common.{◌≡◌, ◌≢◌, ℕ, zero, suc, ◌+◌, ◌<◌, ◌≤◌, Bool, true, false, true≢false, List, [], ◌∷◌, ◌++◌, append_assoc, append-nil, length, drop, drop-cons, add-one, get_or, refl, ap, sym, subst, ◌∙◌, arith, rules, eq-eqb}
+use Rattle.std.proofs.Common.{◌≡◌, ◌≢◌, ℕ, zero, suc, ◌+◌, ◌<◌, ◌≤◌, Bool, true, false, true≢false, List, [], ◌∷◌, ◌++◌, append_assoc, append-nil, length, drop, get_or, refl, ap, sym, subst, ◌∙◌, arith, rules, eq-eqb}
 use Rattle.std.specs.Prelude.{slice_set, ◌==◌, if◌then◌else◌}
 use Rattle.std.specs.List.{AllByRecursion}
 use Rattle.std.proofs.lemmas.Bool.{ne_eqb}
-use Rattle.std.proofs.lemmas.List.{get_or_default}
+use Rattle.std.proofs.lemmas.List.{drop_more}
 use Rattle.mbqi_terms.specs.declared.script.Function.{Function}
 use Rattle.mbqi_terms.specs.declared.sort.Sort.{Sort}
 use Rattle.function_model.specs.declared.model.Row.{Row}
@@ -32,17 +32,14 @@ put_at tables f row table rows h is put =
     ap (λ (rows : List Row). slice_set tables f (record table { rows = rows })) put
     ∙ (ap (λ (t : Table). slice_set tables f (with_last t row)) is ∙ set_is tables f row table h)
 
-drop_at : {X : Type 0} (xs : List X) (i : ℕ) (x : X) → i < length xs → x ≡ get_or xs i x → drop i xs ≡ x ∷ drop (i + 1) xs
-drop_at xs i x h is = rw (add-one, drop-cons xs i x) (ap (λ y. y ∷ drop (suc i) xs) (sym is))
-
 -- one turn of the loop over the atoms
 pub put_next : (tables : List Table) (atoms : List GroundAtom) (truths : List Bool) (i : ℕ) (atom : GroundAtom) (d : Bool)
     → i < length atoms → i < length truths → atom ≡ get_or atoms i atom
     → with_rows tables (drop i atoms) (drop i truths)
     ≡ with_rows (with_row tables atom.predicate (row_of atom (get_or truths i d))) (drop (i + 1) atoms) (drop (i + 1) truths)
 put_next tables atoms truths i atom d h k is =
-    let first : drop i atoms ≡ atom ∷ drop (i + 1) atoms = drop_at atoms i atom h is in
-    let second : drop i truths ≡ get_or truths i d ∷ drop (i + 1) truths = drop_at truths i (get_or truths i d) k (get_or_default truths i d (get_or truths i d) k) in
+    let first : drop i atoms ≡ atom ∷ drop (i + 1) atoms = drop_more atoms i atom h ∙ ap (λ x. x ∷ drop (i + 1) atoms) (sym is) in
+    let second : drop i truths ≡ get_or truths i d ∷ drop (i + 1) truths = drop_more truths i d k in
     rw (first, second) refl
 
 -- the tables of functions depend on the rows of their own numbers alone

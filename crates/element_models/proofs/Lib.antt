@@ -1,3 +1,7 @@
+pub mod AtomRows
+pub mod Counting
 pub mod Filling
 pub mod Knots
+pub mod Lookups
 pub mod Raising
+pub mod Values

@@ -1,10 +1,10 @@
-use Rattle.std.proofs.Common.{◌≡◌, ◌≢◌, ◌<◌, ◌≤◌, ◌∙◌, ℕ, length, get_or, length-set, get_or-set_other, get_or-set_same, below_more, ap, sym, subst, arith, rules}
+use Rattle.std.proofs.Common.{◌≡◌, ◌≢◌, ◌<◌, ◌≤◌, ◌∙◌, ℕ, length, drop, get_or, length-set, get_or-set_other, get_or-set_same, below_more, ap, sym, subst, arith, rules}
 use Rattle.std.specs.List.{AllZip}
-use Rattle.std.proofs.lemmas.List.{get_or_default}
+use Rattle.std.proofs.lemmas.List.{get_or_default, take_at}
 use Rattle.function_model.specs.Rising.{AgreeAtSamePlaces}
 use Rattle.function_model.specs.declared.model.Table.{Table}
 use Rattle.element_models.specs.Filling.{IsRaised}
-use Rattle.element_models.proofs.Raising.{each_raised, all_written}
+use Rattle.element_models.proofs.Raising.{each_raised}
 use Rattle.element_models.proofs.rows.raise_tables.Goals as goal
 
 -- the table at the index is the given one
@@ -37,5 +37,5 @@ returns c =
     let whole : c.args.tables.now.len ≡ length c.args.tables.now.items =
         omega (arith, c.deref_mut-table-items.ensures.len, ap length c.deref_mut-table-items.ensures.value) in
     subst (AllZip IsRaised c.args.tables.now.items)
-    (sym (all_written c.args.tables.now.len c.args.tables.now.items c.loop-table.table-items kept.many whole))
+    (sym (take_at c.loop-table.table-items (drop (length c.loop-table.table-items) c.args.tables.now.items) c.args.tables.now.len (kept.many ∙ sym whole)))
     (each_raised c.args.tables.now.items c.loop-table.table-items kept.many (λ k h d. kept.raised k (omega (arith, kept.many)) d))
