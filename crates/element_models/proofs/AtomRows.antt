@@ -60,16 +60,16 @@ IsFrom atoms truths f row =
 pub rows_agree : (atoms : List GroundAtom) (truths : List Bool) (f : ℕ) → AreDistinct atoms → AgreeAtSamePlaces (rows_of atoms truths f)
 rows_agree atoms truths f distinct a b in_a in_b places =
     let from = λ (row : Row) (c : Contains (rows_of atoms truths f) row). All-contains (IsFrom atoms truths f) (rows_of atoms truths f) row
-        (All-from_recursion (IsFrom atoms truths f) (rows_of atoms truths f)
-        (all_rows (IsFrom atoms truths f) f atoms truths (λ k d h e. (k, d, h, e, refl)))) c in
+    (All-from_recursion (IsFrom atoms truths f) (rows_of atoms truths f)
+    (all_rows (IsFrom atoms truths f) f atoms truths (λ k d h e. (k, d, h, e, refl)))) c in
     let x = from a in_a in
     let y = from b in_b in
     let at_x : get_or atoms x.0 y.1 ≡ get_or atoms x.0 x.1 = get_or_default atoms x.0 y.1 x.1 x.2 in
     let p : (get_or atoms x.0 x.1).predicate ≡ (get_or atoms y.0 y.1).predicate = sym x.3 ∙ y.3 in
     let args : map element_of (get_or atoms x.0 x.1).args ≡ map element_of (get_or atoms y.0 y.1).args =
-        ap (λ (row : Row). row.places) (sym x.4) ∙ (places ∙ ap (λ (row : Row). row.places) y.4) in
+    ap (λ (row : Row). row.places) (sym x.4) ∙ (places ∙ ap (λ (row : Row). row.places) y.4) in
     let same : x.0 ≡ y.0 = same_place atoms distinct x.0 y.0 y.1 x.2 y.2
-        (at_x ∙ same_atom (get_or atoms x.0 x.1) (get_or atoms y.0 y.1) p args) in
+    (at_x ∙ same_atom (get_or atoms x.0 x.1) (get_or atoms y.0 y.1) p args) in
     ap (λ (row : Row). row.value) x.4
     ∙ (ap (λ k. value.Truth (get_or truths k false)) same ∙ ap (λ (row : Row). row.value) (sym y.4))
 
@@ -85,7 +85,7 @@ module _ (knots : List (List Value)) (args : List Value) (default : Value) where
   beyond false row rows v never later = later
   beyond true row rows v never later =
       elim (is_at row.places knots args) as (λ b. is_at row.places knots args ≡ b → (if b then row.value else value_at rows knots args default) ≡ v) [
-        true ↦ λ e. absurd (never refl e)
+        | true ↦ λ e. absurd (never refl e)
         | false ↦ λ e. later
       ] refl
 

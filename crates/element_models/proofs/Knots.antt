@@ -46,7 +46,7 @@ has_element : (e m n : ℕ) → e ≤ n → n < e + m → list_any (is_same (val
 has_element e zero n h k = absurd (omega arith)
 has_element e (suc m) n h k =
     elim (is_eq (nat_cmp n e)) as (λ b. is_eq (nat_cmp n e) ≡ b → (b || list_any (is_same (value.Elem n)) (elements_from (e + 1) m)) ≡ true) [
-      true ↦ λ is. refl
+      | true ↦ λ is. refl
       | false ↦ λ is.
           has_element (e + 1) m n (let other : n ≡ e → ⊥ = λ s. true≢false (sym (same_number n e s) ∙ is) in omega arith) (omega arith)
     ] refl

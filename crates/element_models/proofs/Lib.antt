@@ -1,6 +1,7 @@
 pub mod AtomRows
 pub mod Counting
 pub mod Filling
+pub mod Fitting
 pub mod Knots
 pub mod Lookups
 pub mod Raising

@@ -1,5 +1,5 @@
 -- What the tables of the functions give: an element for each constant, and the rows of each predicate.
-use Rattle.std.proofs.Common.{◌≡◌, ℕ, zero, suc, ◌+◌, ◌<◌, ◌≤◌, Bool, true, false, true≢false, List, [], ◌∷◌, length, get_or, refl, ap, sym, ◌∙◌, cond, arith}
+use Rattle.std.proofs.Common.{◌≡◌, ℕ, zero, suc, ◌+◌, ◌<◌, ◌≤◌, Bool, true, false, List, [], ◌∷◌, length, get_or, refl, ap, sym, ◌∙◌, cond, arith}
 use Rattle.std.specs.Prelude.{◌==◌, if◌then◌else◌, Option, Some}
 use Rattle.std.specs.List.{AllZip, find}
 use Rattle.std.proofs.lemmas.Bool.{eq-eqb, ne_eqb}
@@ -12,7 +12,7 @@ use Rattle.function_model.specs.Lookup.{value_at, looked_up, looked_up_in, is_de
 use Rattle.function_model.specs.declared.model.Row.{Row}
 use Rattle.function_model.specs.declared.model.Table.{Table}
 use Rattle.ground_form.specs.Profile.{is_constant, constant, constants_from}
-use Rattle.element_models.specs.Elements.{constant_table, predicate_table, knots_of, next_element, table_for, tables_from}
+use Rattle.element_models.specs.Elements.{constant_table, predicate_table, next_element, table_for, tables_from}
 use Rattle.element_models.specs.Filling.{IsRaised}
 
 -- The table of a declared function.
@@ -39,7 +39,7 @@ raised_give g args (t ∷ given) [] each = absurd each
 raised_give g args (t ∷ given) (r ∷ raised) each =
     ap (λ name. looked_up (cond (is_declared g name) (Some r) (table_of g raised)) args) each.0.name
     ∙ first_or (is_declared g t.name) t r (table_of g given) (table_of g raised) args (raised_gives t r args each.0)
-        (raised_give g args given raised each.1)
+    (raised_give g args given raised each.1)
 
 -- the name of a function's table
 named : (b : Bool) (rows : List Row) (f e size g : ℕ) (args : List Sort)

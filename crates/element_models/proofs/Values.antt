@@ -1,10 +1,9 @@
 -- In the model of atoms with truths each atom has its truth.
-use Rattle.std.proofs.Common.{◌≡◌, ℕ, ◌+◌, ◌<◌, Bool, false, List, [], ◌∷◌, length, map, get_or, refl, ap, sym, subst, ◌∙◌, arith, rules}
+use Rattle.std.proofs.Common.{◌≡◌, ℕ, ◌+◌, ◌<◌, Bool, false, List, [], ◌∷◌, length, map, get_or, refl, ap, sym, ◌∙◌, arith, rules}
 use Rattle.std.specs.Prelude.{All, pos}
 use Rattle.std.specs.List.{AllZip, AllByRecursion}
 use Rattle.std.proofs.lemmas.List.Elements.{recursion_from_All, All-weaker}
 use Rattle.std.proofs.lemmas.Option.{slice_get_within, get_or_from_slice_get}
-use Rattle.mbqi_values.specs.declared.value.Value.{Value}
 use Rattle.mbqi_values.specs.declared.value.Value.TheVariants as value
 use Rattle.mbqi_terms.specs.Distinct.{AreDistinct}
 use Rattle.mbqi_terms.specs.Store.{tree_at}
@@ -20,7 +19,7 @@ use Rattle.function_model.specs.ValueOf.{Point, value_of}
 use Rattle.function_model.specs.declared.model.FunctionModel.{FunctionModel}
 use Rattle.function_model.specs.declared.model.Table.{Table}
 use Rattle.ground_form.specs.Atoms.{IsOver, atom_tree, atom_at}
-use Rattle.ground_form.specs.Profile.{is_constant, is_element, constant, constants_of}
+use Rattle.ground_form.specs.Profile.{is_constant, is_element, constants_of}
 use Rattle.ground_form.specs.declared.atoms.GroundAtom.{GroundAtom}
 use Rattle.element_models.specs.Elements.{size_of, knots_of, tables_from}
 use Rattle.element_models.specs.Filling.{IsRaised}
@@ -71,8 +70,8 @@ module _ (sizes : List ℕ) (functions : List Function) (atoms : List GroundAtom
       let args = map element_of atom.args in
       let size = size_of functions in
       let below = recursion_from_All (λ id. id.0 < size) atom.args
-          (All-weaker (λ id. id.0 < length (constants_of functions)) (λ id. id.0 < size)
-          (λ id h. omega (arith, h, length_constants 0 functions, counted functions)) atom.args is.args) in
+      (All-weaker (λ id. id.0 < length (constants_of functions)) (λ id. id.0 < size)
+      (λ id h. omega (arith, h, length_constants 0 functions, counted functions)) atom.args is.args) in
       let sorts = (get_or functions p function).args in
       let as_many : length atom.args ≡ length sorts = is.predicate.3 ∙ ap (λ (f : Function). length f.args) (sym read) in
       let number : 0 + p ≡ p = omega arith in
@@ -83,4 +82,4 @@ module _ (sizes : List ℕ) (functions : List Function) (atoms : List GroundAtom
       ∙ (ap (λ table. looked_up table args) (predicate_found (rows_of atoms truths) size 0 0 p functions function within predicate)
       ∙ (ap (λ g. value_at (rows_of atoms truths g) (knots_of size sorts) args (value.Truth false)) number
       ∙ found (knots_of size sorts) (value.Truth false) atoms truths k none distinct many h (at_itself size sorts atom.args as_many below)
-          (λ places e. at_only size sorts atom.args places below e))))))
+      (λ places e. at_only size sorts atom.args places below e))))))

@@ -1,4 +1,4 @@
-use Rattle.std.proofs.Common.{◌≡◌, ◌≢◌, ◌<◌, ◌≤◌, ◌∙◌, ℕ, length, drop, get_or, length-set, get_or-set_other, get_or-set_same, below_more, ap, sym, subst, arith, rules}
+use Rattle.std.proofs.Common.{◌≡◌, ◌≢◌, ◌<◌, ◌∙◌, length, drop, get_or, length-set, get_or-set_other, get_or-set_same, below_more, ap, sym, subst, arith}
 use Rattle.std.specs.List.{AllZip}
 use Rattle.std.proofs.lemmas.List.{get_or_default, take_at}
 use Rattle.function_model.specs.Rising.{AgreeAtSamePlaces}
@@ -25,7 +25,7 @@ loop-table-preserved c =
           (λ k h d. let ne : k ≢ i = omega arith in rw get_or-set_other (kept.raised k h d))
           (λ d.
           let given : get_or c.loop-table.table-items i c.table-item.result ≡ get_or c.args.tables.now.items i d =
-              kept.given i (omega arith) c.table-item.result ∙ get_or_default c.args.tables.now.items i c.table-item.result d (omega (arith, kept.many)) in
+          kept.given i (omega arith) c.table-item.result ∙ get_or_default c.args.tables.now.items i c.table-item.result d (omega (arith, kept.many)) in
           rw get_or-set_same (subst (λ (t : Table). IsRaised t c.raise_rows.new.table) given c.raise_rows.ensures));
       given = λ k h d. let ne : k ≢ i = omega arith in rw get_or-set_other (kept.given k (omega arith) d);
       many = length-set c.loop-table.table-items i c.raise_rows.new.table ∙ kept.many;
@@ -35,7 +35,7 @@ pub returns : goal.returns
 returns c =
     let kept = c.loop-table.invariant in
     let whole : c.args.tables.now.len ≡ length c.args.tables.now.items =
-        omega (arith, c.deref_mut-table-items.ensures.len, ap length c.deref_mut-table-items.ensures.value) in
+    omega (arith, c.deref_mut-table-items.ensures.len, ap length c.deref_mut-table-items.ensures.value) in
     subst (AllZip IsRaised c.args.tables.now.items)
     (sym (take_at c.loop-table.table-items (drop (length c.loop-table.table-items) c.args.tables.now.items) c.args.tables.now.len (kept.many ∙ sym whole)))
     (each_raised c.args.tables.now.items c.loop-table.table-items kept.many (λ k h d. kept.raised k (omega (arith, kept.many)) d))
