@@ -1,0 +1,49 @@
+-- The models of elementary scripts (this project's own): each constant is an element of its own, and one more element stands for
+-- what has no name.
+use Rattle.std.specs.Prelude.{ℕ, zero, suc, ◌+◌, false, List, [], ◌∷◌, map, count_by, if◌then◌else◌}
+use Rattle.mbqi_values.specs.declared.value.Value.{Value}
+use Rattle.mbqi_values.specs.declared.value.Value.TheVariants as value
+use Rattle.mbqi_terms.specs.declared.script.Function.{Function}
+use Rattle.mbqi_terms.specs.declared.sort.Sort.{Sort}
+use Rattle.function_model.specs.declared.model.Row.{Row}
+use Rattle.function_model.specs.declared.model.Table.{Table}
+use Rattle.function_model.specs.declared.model.TableName.TheVariants.{Declared}
+use Rattle.ground_form.specs.Profile.{is_constant}
+
+-- How many elements the universe has: one for each constant, and one more.
+abbrev pub size_of : List Function → ℕ
+size_of functions = count_by is_constant functions + 1
+
+-- So many elements in order, from one on.
+abbrev pub elements_from : ℕ → ℕ → List Value
+elements_from e zero = []
+elements_from e (suc n) = value.Elem e ∷ elements_from (e + 1) n
+
+-- Each element is a knot of each argument.
+abbrev pub knots_of : ℕ → List Sort → List (List Value)
+knots_of size args = map (λ arg. elements_from 0 size) args
+
+abbrev pub constant_table : ℕ → ℕ → Table
+constant_table f e = record { name = Declared f; knots = []; rows = []; default = value.Elem e }
+
+abbrev pub predicate_table : List Row → ℕ → ℕ → List Sort → Table
+predicate_table rows f size args = record { name = Declared f; knots = knots_of size args; rows = rows; default = value.Truth false }
+
+-- The table of a function, where a predicate of its number has these rows.
+abbrev pub table_for : (ℕ → List Row) → ℕ → ℕ → ℕ → Function → Table
+table_for rows f e size function =
+    if is_constant function then constant_table f e else predicate_table (rows f) f size function.args
+
+-- The element that comes next behind a function.
+abbrev pub next_element : Function → ℕ → ℕ
+next_element function e = if is_constant function then e + 1 else e
+
+-- The tables of the functions in order, of which the first has this number, and the first constant is this element.
+abbrev pub tables_from : (ℕ → List Row) → ℕ → ℕ → ℕ → List Function → List Table
+tables_from rows f e size [] = []
+tables_from rows f e size (function ∷ functions) =
+    table_for rows f e size function ∷ tables_from rows (f + 1) (next_element function e) size functions
+
+-- No predicate has a row.
+abbrev pub no_rows : ℕ → List Row
+no_rows f = []

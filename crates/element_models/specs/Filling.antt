@@ -1,0 +1,42 @@
+-- Rows put into tables one after the other, and brought into order (this project's own). Private functions alone cite it.
+use Rattle.std.specs.Prelude.{◌≡◌, ◌↔◌, ℕ, zero, suc, Bool, false, List, [], ◌∷◌, ◌++◌, Contains, Some, slice_get}
+use Rattle.mbqi_values.specs.declared.value.Value.{Value}
+use Rattle.mbqi_terms.specs.declared.script.Function.{Function}
+use Rattle.function_model.specs.Lookup.{value_at}
+use Rattle.function_model.specs.Rising.{RowsRise}
+use Rattle.function_model.specs.declared.model.Row.{Row}
+use Rattle.function_model.specs.declared.model.Table.{Table}
+use Rattle.ground_form.specs.Profile.{is_constant}
+use Rattle.ground_form.specs.declared.atoms.GroundAtom.{GroundAtom}
+use Rattle.element_models.specs.Rows.{row_of}
+
+-- The atom is of a function that is no constant.
+abbrev pub NamesPredicate : List Function → GroundAtom → Type 0
+NamesPredicate functions atom =
+    (function : Function) × (slice_get functions atom.predicate ≡ Some function) × (is_constant function ≡ false)
+
+-- A table with one more row, behind the others.
+abbrev pub with_last : Table → Row → Table
+with_last table row = record table { rows = table.rows ++ row ∷ [] }
+
+-- Tables with one more row in the table of a number.
+abbrev pub with_row : List Table → ℕ → Row → List Table
+with_row [] f row = []
+with_row (table ∷ tables) zero row = with_last table row ∷ tables
+with_row (table ∷ tables) (suc f) row = table ∷ with_row tables f row
+
+-- Tables with a row for each atom.
+abbrev pub with_rows : List Table → List GroundAtom → List Bool → List Table
+with_rows tables [] truths = tables
+with_rows tables (atom ∷ atoms) [] = tables
+with_rows tables (atom ∷ atoms) (truth ∷ truths) = with_rows (with_row tables atom.predicate (row_of atom truth)) atoms truths
+
+-- The table has the other one's rows in rising order, and the rest as before.
+pub record IsRaised (given : Table) (raised : Table) : Type 0 where
+  pub name : raised.name ≡ given.name
+  pub knots : raised.knots ≡ given.knots
+  pub default : raised.default ≡ given.default
+  pub rising : RowsRise raised.rows
+  pub contains : (row : Row) → Contains raised.rows row ↔ Contains given.rows row
+  pub same : (knots : List (List Value)) (args : List Value) (default : Value)
+      → value_at raised.rows knots args default ≡ value_at given.rows knots args default
