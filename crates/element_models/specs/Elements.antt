@@ -1,6 +1,6 @@
 -- The models of elementary scripts (this project's own): each constant is an element of its own, and one more element stands for
 -- what has no name.
-use Rattle.std.specs.Prelude.{ℕ, zero, suc, ◌+◌, Bool, true, false, List, [], ◌∷◌, map, count_by, if◌then◌else◌}
+use Rattle.std.specs.Prelude.{ℕ, zero, suc, ◌+◌, false, List, [], ◌∷◌, map, count_by, if◌then◌else◌}
 use Rattle.mbqi_values.specs.declared.value.Value.{Value}
 use Rattle.mbqi_values.specs.declared.value.Value.TheVariants as value
 use Rattle.mbqi_terms.specs.declared.script.Function.{Function}

@@ -1,12 +1,19 @@
 -- Rows put into tables one after the other, and brought into order (this project's own). Private functions alone cite it.
-use Rattle.std.specs.Prelude.{◌≡◌, ◌↔◌, ℕ, zero, suc, Bool, List, [], ◌∷◌, ◌++◌, Contains}
+use Rattle.std.specs.Prelude.{◌≡◌, ◌↔◌, ℕ, zero, suc, Bool, false, List, [], ◌∷◌, ◌++◌, Contains, Some, slice_get}
 use Rattle.mbqi_values.specs.declared.value.Value.{Value}
+use Rattle.mbqi_terms.specs.declared.script.Function.{Function}
 use Rattle.function_model.specs.Lookup.{value_at}
 use Rattle.function_model.specs.Rising.{RowsRise}
 use Rattle.function_model.specs.declared.model.Row.{Row}
 use Rattle.function_model.specs.declared.model.Table.{Table}
+use Rattle.ground_form.specs.Profile.{is_constant}
 use Rattle.ground_form.specs.declared.atoms.GroundAtom.{GroundAtom}
 use Rattle.element_models.specs.Rows.{row_of}
+
+-- The atom is of a function that is no constant.
+abbrev pub NamesPredicate : List Function → GroundAtom → Type 0
+NamesPredicate functions atom =
+    (function : Function) × (slice_get functions atom.predicate ≡ Some function) × (is_constant function ≡ false)
 
 -- A table with one more row, behind the others.
 abbrev pub with_last : Table → Row → Table

@@ -1,10 +1,11 @@
 //! The elements, and the tables of the functions over them without rows.
 
-ghost use Rattle.std.specs.Prelude.{◌≡◌, ◌<◌, ◌≤◌, ◌+◌, length, count_by, replicate, IfOk, [], ◌∷◌};
+ghost use Rattle.std.specs.Prelude.{◌≡◌, ◌+◌, length, replicate, IfOk};
 ghost use Rattle.ground_form.specs.Profile.{is_constant};
-ghost use Rattle.element_models.specs.Elements.{size_of, elements_from, knots_of, table_for, tables_from, no_rows};
+ghost use Rattle.element_models.specs.Elements.{elements_from, knots_of, table_for, tables_from, no_rows};
 
 use function_model::{Rows, Table, TableName, ValueLists};
+use ground_form::Pool;
 use mbqi_terms::{Function, Sort, Values};
 use mbqi_values::{Sequence, Sizes, Value};
 use std::alloc::{AllocError, Global};
@@ -22,21 +23,11 @@ fn is_constant(function: &Function) -> bool
     matches!(function.result, Sort::Elem(_))
 }
 
-fn constant_count(functions: &[Function]) -> usize
-    ensures value { result ≡ count_by is_constant functions.now }
-    ensures within { result ≤ length functions.now }
+/// How many elements there are: one for each constant, and one more.
+pub fn universe_size(pool: &Pool) -> u64
+    ensures { result ≡ length pool.now.terms + 1 }
 {
-    functions
-        .iter()
-        .filter(|function| is_constant(function))
-        .count()
-}
-
-/// How many elements there are.
-pub fn universe_size(functions: &[Function]) -> u64
-    ensures { result ≡ size_of functions.now }
-{
-    constant_count(functions) as u64 + 1
+    pool.terms.as_slice().len() as u64 + 1
 }
 
 /// Every element of the universe, in order.

@@ -1,6 +1,6 @@
 //! The rows of ground atoms in the tables of their predicates.
 
-ghost use Rattle.std.specs.Prelude.{◌≡◌, ◌<◌, length, All, IfOk, OnOk};
+ghost use Rattle.std.specs.Prelude.{◌≡◌, ◌<◌, length, map, All, IfOk, OnOk};
 ghost use Rattle.std.specs.List.{AllZip};
 ghost use Rattle.function_model.specs.Rising.{AgreeAtSamePlaces};
 ghost use Rattle.element_models.specs.Filling.{IsRaised, with_row, with_rows};
@@ -20,14 +20,18 @@ fn element_of(id: TermId) -> Value
     Value::Elem(id.0 as u64)
 }
 
+fn elements_of(alloc: Global, ids: &[TermId]) -> Result<Vec<Value>, AllocError>
+    ensures { IfOk result (λ values. values.items ≡ map element_of ids.now) }
+{
+    ids.iter().map(|id| element_of(*id)).collect(alloc)
+}
+
 /// An atom's row: its arguments' elements, and its truth.
 fn row_of(alloc: Global, atom: &GroundAtom, truth: bool) -> Result<Row, AllocError>
     ensures { IfOk result (λ row. row ≡ row_of atom.now truth) }
 {
-    let args = atom.args.as_slice();
-    let places = args.iter().map(|id| element_of(*id)).collect(alloc)?;
     Ok(Row {
-        places: Sequence::from_vec(places),
+        places: Sequence::from_vec(elements_of(alloc, atom.args.as_slice())?),
         value: Value::Truth(truth),
     })
 }
@@ -40,7 +44,8 @@ fn put_row(tables: &mut Vec<Table>, at: usize, row: Row) -> Result<(), AllocErro
     tables[at].rows.push(row)
 }
 
-/// Puts a row for each atom into the table of its predicate.
+/// Puts a row for each atom, with its truth, into the table of its predicate.
+#[tactic(auto, using(crate::proofs::Filling::length_with_row))]
 pub fn put_rows(
     alloc: Global,
     tables: &mut Vec<Table>,

@@ -1,2 +1,4 @@
 pub mod AtomTest
 pub mod Pools
+pub mod Numbers
+pub mod Truths

@@ -1,8 +1,8 @@
 -- The pool made function by function is that of the functions.
-use Rattle.std.proofs.Common.{◌≡◌, ℕ, zero, suc, ◌+◌, ◌<◌, ◌≤◌, ◌⊎◌, inl, inr, Bool, true, false, List, [], ◌∷◌, ◌++◌, length, Some, get_or, slice_get, slice_index, if◌then◌else◌, refl, sym, ap, subst, ◌∙◌, arith, append_assoc, append-nil, length-append}
+use Rattle.std.proofs.Common.{◌≡◌, ℕ, ◌+◌, ◌<◌, ◌⊎◌, inl, inr, Bool, true, false, true≢false, List, [], ◌∷◌, ◌++◌, length, Some, slice_get, slice_index, if◌then◌else◌, refl, sym, ap, subst, ◌∙◌, arith, append_assoc, append-nil, length-append}
 use Rattle.std.proofs.Math.ListN.{get_or-append}
 use Rattle.std.proofs.Math.Seq.{get_or-append_seam}
-use Rattle.std.proofs.lemmas.Option.{slice_get_within}
+use Rattle.std.proofs.lemmas.Option.{slice_get_within, slice_get_cases, same_Some}
 use Rattle.mbqi_terms.specs.declared.script.Function.{Function}
 use Rattle.mbqi_terms.specs.declared.term.Term.{Term}
 use Rattle.mbqi_terms.proofs.Trees.{get_front, get_seam}
@@ -37,20 +37,85 @@ constants-push f (first ∷ functions) function =
 
 module _ (before : List Function) (pool : Pool) (is : IsPool before pool) (function : Function) where
   -- a constant among the functions before, or the next one
-  names : (c : ℕ) → NamesConstant (before ++ function ∷ []) c → NamesConstant before c ⊎ ((c ≡ length before) × IsConstant function)
-  names c named = ?
+  names : (c : ℕ) → NamesConstant (before ++ function ∷ []) c → (NamesConstant before c × (c < length pool.numbers)) ⊎ ((c ≡ length pool.numbers) × IsConstant function)
+  names c named =
+      elim (slice_get_cases before c).1 [
+        | inl here ↦
+            let same : here.0 ≡ named.0 = same_Some here.0 named.0 (sym (get-append before (function ∷ []) c here.0 here.2) ∙ named.1) in
+            let constant_is = subst IsConstant (sym same) named.2 in
+            inl ((here.0, here.2, constant_is), omega (arith, is.numbers, here.1))
+        | inr past ↦
+            let within = slice_get_within (before ++ function ∷ []) c named.0 named.1 in
+            let last : c ≡ length before = omega (arith, within, past.0, length-append before (function ∷ [])) in
+            let same : function ≡ named.0 =
+            same_Some function named.0 (sym (get_seam before function []) ∙ (ap (slice_get (before ++ function ∷ [])) (sym last) ∙ named.1)) in
+            inr (last ∙ sym is.numbers, subst IsConstant (sym same) named.2)
+      ]
+
+  -- what stays of the places
+  earlier : (more : List Term) (number c : ℕ) → NamesConstant before c → c < length pool.numbers
+      → slice_get (pool.terms ++ more) (slice_index (pool.numbers ++ number ∷ []) c) ≡ Some (constant c)
+  earlier more number c named within =
+      ap (slice_get (pool.terms ++ more)) (get_or-append pool.numbers (number ∷ []) 0 c within)
+      ∙ get-append pool.terms more (slice_index pool.numbers c) (constant c) (is.places c named)
+
+  longer : (number : ℕ) → length (pool.numbers ++ number ∷ []) ≡ length (before ++ function ∷ [])
+  longer number = omega (arith, is.numbers, length-append pool.numbers (number ∷ []), length-append before (function ∷ []))
+
+  terms-push : (b : Bool) → is_constant function ≡ b
+      → pool.terms ++ (if b then constant (length pool.numbers) ∷ [] else []) ≡ constants_of (before ++ function ∷ [])
+  unfolding one_more
+  terms-push b p =
+      ap (λ ts. ts ++ (if b then constant (length pool.numbers) ∷ [] else [])) is.terms
+      ∙ (ap (λ n. constants_of before ++ (if b then constant n ∷ [] else [])) number
+      ∙ (ap (λ c. constants_of before ++ (if c then constant (0 + length before) ∷ [] else [])) (sym p) ∙ sym (constants-push 0 before function)))
+    where
+      number : length pool.numbers ≡ 0 + length before
+      number = omega (arith, is.numbers)
 
   pool-with : IsPool (before ++ function ∷ []) (pool_with pool function)
-  pool-with = ?
+  pool-with = by (is_constant function) refl
+    where
+      place : (c : ℕ) → c ≡ length pool.numbers
+          → slice_get (pool.terms ++ constant (length pool.numbers) ∷ []) (slice_index (pool.numbers ++ length pool.terms ∷ []) c) ≡ Some (constant c)
+      place c e =
+          ap (λ n. slice_get (pool.terms ++ constant (length pool.numbers) ∷ []) (slice_index (pool.numbers ++ length pool.terms ∷ []) n)) e
+          ∙ (ap (slice_get (pool.terms ++ constant (length pool.numbers) ∷ [])) (get_or-append_seam pool.numbers (length pool.terms) [] 0)
+          ∙ (get_seam pool.terms (constant (length pool.numbers)) [] ∙ ap (λ n. Some (constant n)) (sym e)))
+
+      by : (b : Bool) → is_constant function ≡ b
+          → IsPool (before ++ function ∷ [])
+          (if b then record { terms = pool.terms ++ constant (length pool.numbers) ∷ []; numbers = pool.numbers ++ length pool.terms ∷ [] }
+          else record { terms = pool.terms; numbers = pool.numbers ++ 0 ∷ [] })
+      by true p = record {
+        terms = terms-push true p;
+        numbers = longer (length pool.terms);
+        places = λ c named. elim (names c named) [
+          | inl before_it ↦ earlier (constant (length pool.numbers) ∷ []) (length pool.terms) c before_it.0 before_it.1
+          | inr last ↦ place c last.0
+        ];
+      }
+      by false p = record {
+        terms = sym (append-nil pool.terms) ∙ terms-push false p;
+        numbers = longer 0;
+        places = λ c named. elim (names c named) [
+          | inl before_it ↦
+              ap (λ ts. slice_get ts (slice_index (pool.numbers ++ 0 ∷ []) c)) (sym (append-nil pool.terms)) ∙ earlier [] 0 c before_it.0 before_it.1
+          | inr last ↦ absurd (true≢false (sym (ap is_element last.1.0) ∙ p))
+        ];
+      }
 
 pools : (before functions : List Function) (pool : Pool) → IsPool before pool → IsPool (before ++ functions) (pool_with_all pool functions)
-pools before [] pool is = subst (λ fs. IsPool fs pool) (sym append-nil) is
+pools before [] pool is = subst (λ fs. IsPool fs pool) (sym (append-nil before)) is
 pools before (function ∷ functions) pool is =
     let rest = pools (before ++ function ∷ []) functions (pool_with pool function) (pool-with before pool is function) in
-    subst (λ fs. IsPool fs (pool_with_all pool (function ∷ functions))) append_assoc rest
+    subst (λ fs. IsPool fs (pool_with_all pool (function ∷ functions))) (append_assoc before (function ∷ []) functions) rest
 
 none : IsPool [] (record { terms = []; numbers = [] })
-none = record { terms = refl; numbers = refl; places = λ c named. ? }
+none = record { terms = refl; numbers = refl; places = λ c named. absurd (none_there c named.0 named.1) }
+  where
+    none_there : (c : ℕ) (function : Function) → slice_get [] c ≡ Some function → ⊥
+    none_there c function e = cc
 
 pub pool_is : (functions : List Function) → IsPool functions (pool_with_all (record { terms = []; numbers = [] }) functions)
 pool_is functions = pools [] functions (record { terms = []; numbers = [] }) none

@@ -3,6 +3,8 @@ use Rattle.std.specs.Prelude.{◌≡◌, ℕ, ◌<◌, Bool, List, [], length, m
 use Rattle.function_model.specs.TruthOf.{Meanings}
 use Rattle.function_model.specs.ValueOf.{is_true}
 use Rattle.mbqi_terms.specs.Store.{tree_at}
+use Rattle.mbqi_terms.specs.declared.formula.Formula.{Formula}
+use Rattle.mbqi_terms.specs.declared.instance.InstanceLine.{InstanceLine}
 use Rattle.mbqi_terms.specs.declared.script.Function.{Function}
 use Rattle.mbqi_terms.specs.declared.term.Symbol.TheVariants as symbol
 use Rattle.mbqi_terms.specs.declared.term.Term.{Term}
@@ -34,3 +36,7 @@ pub record IsPool (functions : List Function) (pool : Pool) : Type 0 where
   pub terms : pool.terms ≡ constants_of functions
   pub numbers : length pool.numbers ≡ length functions
   pub places : (c : ℕ) → NamesConstant functions c → slice_get pool.terms (slice_index pool.numbers c) ≡ Some (constant c)
+
+-- The formulas of instances.
+abbrev pub formulas_in : List InstanceLine → List Formula
+formulas_in lines = map (λ (line : InstanceLine). line.formula) lines

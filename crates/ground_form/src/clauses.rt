@@ -6,18 +6,18 @@ ghost use Rattle.clause_search.specs.Clauses.{all_true, AreBelow};
 ghost use Rattle.function_model.specs.TruthOf.{Meanings, truth_of};
 ghost use Rattle.mbqi_terms.specs.declared.term.Symbol.TheVariants as symbol;
 ghost use Rattle.mbqi_terms.specs.declared.term.Term.TheVariants as term;
-ghost use Rattle.ground_form.specs.Atoms.{truths_by, IsOver, IsPool};
+ghost use Rattle.ground_form.specs.Atoms.{truths_by, formulas_in, IsOver, IsPool};
 ghost use Rattle.ground_form.specs.Numbering.{Extends, IsDeclared, IsNumbered, IsNumberOf, IsAtomOf, IsLitOf, IsClauseOf};
 ghost use Rattle.ground_form.specs.Profile.{IsClause, IsLiteral, IsAtom};
 
 use crate::atoms::{AtomTable, GroundAtom};
 use crate::pool::Pool;
 use clause_search::{LitLists, Lits};
-use mbqi_terms::{Formula, Function, Symbol, Term, TermId, TermIds};
+use mbqi_terms::{Formula, Function, InstanceLine, Symbol, Term, TermId, TermIds};
 use mbqi_values::Lit;
 use std::alloc::{AllocError, Global};
 
-/// The clauses of ground formulas over the pool of the functions, one for each formula in order. Their atoms are numbered
+/// The clauses of the formulas of instances over the pool of the functions, one for each instance in order. Their atoms are numbered
 /// by the table, which keeps those that it has and takes the new ones. The one error is want of memory, after which
 /// the table may have new atoms.
 pub fn clauses_of(
@@ -25,20 +25,20 @@ pub fn clauses_of(
     functions: &[Function],
     pool: &Pool,
     table: &mut AtomTable,
-    formulas: &[Formula],
+    lines: &[InstanceLine],
 ) -> Result<LitLists, AllocError>
     requires pool { IsPool functions.now pool.now }
-    requires clauses { All (IsClause functions.now) formulas.now }
+    requires clauses { All (IsClause functions.now) (formulas_in lines.now) }
     requires over { All (IsOver functions.now pool.now.terms) table.old }
     ensures below { IfOk result (AreBelow (length table.new)) }
     ensures truth { IfOk result (λ clauses. (m : Meanings) →
-        all_true (truths_by m pool.now.terms table.new) clauses ≡ list_all (truth_of m) formulas.now) }
+        all_true (truths_by m pool.now.terms table.new) clauses ≡ list_all (truth_of m) (formulas_in lines.now)) }
     ensures over { All (IsOver functions.now pool.now.terms) table.new }
     ensures kept { Extends table.old table.new }
 {
     let mut clauses = LitLists::new(alloc);
-    for formula in formulas {
-        let clause = clause_of(alloc, functions, pool, table, formula)?;
+    for line in lines {
+        let clause = clause_of(alloc, functions, pool, table, &line.formula)?;
         clauses.push(clause)?;
     }
     Ok(clauses)

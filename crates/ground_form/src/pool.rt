@@ -18,7 +18,6 @@ pub struct Pool {
 }
 
 /// The pool of a script's functions. The one error is want of memory.
-#[tactic(auto, using(crate::proofs::Pools::pool_is))]
 pub fn pool_of(alloc: Global, functions: &[Function]) -> Result<Pool, AllocError>
     ensures { IfOk result (λ pool. IsPool functions.now pool) }
 {

@@ -1,0 +1,158 @@
+-- The tables of elementary functions fit them, also once their rows are in order.
+use Rattle.std.proofs.Common.{◌≡◌, ℕ, suc, ◌+◌, ◌<◌, ◌≤◌, Bool, true, false, List, [], ◌∷◌, length, get_or, refl, sym, ap, subst, ◌∙◌, cond, inl, inr, arith}
+use Rattle.std.specs.Prelude.{◌⊎◌, All, Contains, replicate}
+use Rattle.std.specs.List.{AllByRecursion, AllZip}
+use Rattle.std.proofs.lemmas.List.{length-replicate}
+use Rattle.std.proofs.lemmas.List.Elements.{All-replicate, All-contains, All-contains_itself, All-from_recursion, All-weaker, recursion_from_All}
+use Rattle.std.proofs.lemmas.Option.{get_or_from_slice_get}
+use Rattle.mbqi_values.specs.declared.value.Value.{Value}
+use Rattle.mbqi_terms.specs.declared.script.Function.{Function}
+use Rattle.mbqi_terms.specs.declared.script.Script.{Script}
+use Rattle.mbqi_terms.specs.declared.sort.Sort.{Sort}
+use Rattle.mbqi_terms.specs.declared.sort.Sort.TheVariants as sort
+use Rattle.function_model.specs.Fits.{AreRows, IsRow, HaveKnots, IsShown, FitFunctions, FitsFunction, Fits}
+use Rattle.function_model.specs.Rising.{RowsRise}
+use Rattle.function_model.specs.declared.model.Row.{Row}
+use Rattle.function_model.specs.declared.model.Table.{Table}
+use Rattle.ground_form.specs.Atoms.{IsOver}
+use Rattle.ground_form.specs.Profile.{the_sort, IsConstant, IsPredicate, IsElementary, is_constant, constants_of}
+use Rattle.ground_form.specs.declared.atoms.GroundAtom.{GroundAtom}
+use Rattle.element_models.specs.Elements.{size_of, knots_of, constant_table, predicate_table, table_for, next_element, tables_from}
+use Rattle.element_models.specs.Filling.{IsRaised}
+use Rattle.element_models.specs.Rows.{rows_of}
+use Rattle.element_models.proofs.AtomRows.{all_rows}
+use Rattle.element_models.proofs.Counting.{constants_in, counted, length_constants}
+use Rattle.element_models.proofs.Knots.{have_knots, stand}
+
+-- Rising rows, each of which is a row of a table, may be all its rows.
+abbrev pub RowsFit : Type 0
+RowsFit = (sizes : List ℕ) (knots : List (List Value)) (s : Sort) (rows : List Row)
+    → RowsRise rows → AllByRecursion (IsRow sizes knots s) rows → AreRows sizes knots s rows
+
+abbrev WantedRows : (ℕ → List Row) → ℕ → ℕ → Function → Type 0
+WantedRows rows size f function =
+    IsPredicate function → AllByRecursion (IsRow (size ∷ []) (knots_of size function.args) sort.Truth) (rows f)
+
+module _ (fit : RowsFit) where
+  ordered : (sizes : List ℕ) (s : Sort) (given raised : Table) → IsRaised given raised → AllByRecursion (IsRow sizes given.knots s) given.rows
+      → AreRows sizes raised.knots s raised.rows
+  ordered sizes s given raised is all =
+      let P : Row → Type 0 = IsRow sizes raised.knots s in
+      let here : AllByRecursion P given.rows = subst (λ knots. AllByRecursion (IsRow sizes knots s) given.rows) (sym is.knots) all in
+      let each = λ (row : Row) (c : Contains raised.rows row). All-contains P given.rows row (All-from_recursion P given.rows here) ((is.contains row).0 c) in
+      fit sizes raised.knots s raised.rows is.rising
+      (recursion_from_All P raised.rows (All-weaker (Contains raised.rows) P each raised.rows (All-contains_itself raised.rows)))
+
+  constant_fits : (f e size : ℕ) (name : List ℕ) (raised : Table) → e < size → IsRaised (constant_table f e) raised
+      → FitsFunction (size ∷ []) f (record { name = name; args = []; result = the_sort }) raised
+  constant_fits f e size name raised h is = record {
+    name = is.name;
+    fits = record {
+      knots = subst (HaveKnots (size ∷ []) []) (sym is.knots) tt;
+      rows = ordered (size ∷ []) the_sort (constant_table f e) raised is tt;
+      default = subst (IsShown (size ∷ []) the_sort) (sym is.default) (h, tt);
+    };
+  }
+
+  predicate_fits : (rows : List Row) (f size : ℕ) (name : List ℕ) (args : List Sort) (raised : Table) → 0 < size
+      → AllByRecursion (λ arg. arg ≡ the_sort) args → AllByRecursion (IsRow (size ∷ []) (knots_of size args) sort.Truth) rows
+      → IsRaised (predicate_table rows f size args) raised
+      → FitsFunction (size ∷ []) f (record { name = name; args = args; result = sort.Truth }) raised
+  predicate_fits rows f size name args raised h each all is = record {
+    name = is.name;
+    fits = record {
+      knots = subst (HaveKnots (size ∷ []) args) (sym is.knots) (have_knots size h args each);
+      rows = ordered (size ∷ []) sort.Truth (predicate_table rows f size args) raised is all;
+      default = subst (IsShown (size ∷ []) sort.Truth) (sym is.default) (tt, tt);
+    };
+  }
+
+  -- the table of a function
+  function_fits : (rows : ℕ → List Row) (f e size : ℕ) (name : List ℕ) (args : List Sort) (result : Sort) (raised : Table) → e < size
+      → IsConstant (record { name = name; args = args; result = result }) ⊎ IsPredicate (record { name = name; args = args; result = result })
+      → WantedRows rows size f (record { name = name; args = args; result = result })
+      → IsRaised (table_for rows f e size (record { name = name; args = args; result = result })) raised
+      → FitsFunction (size ∷ []) f (record { name = name; args = args; result = result }) raised
+  function_fits rows f e size name args result raised h (inl is) wanted to =
+      let P : Sort → Type 0 = λ r. IsRaised (table_for rows f e size (record { name = name; args = args; result = r })) raised
+      → FitsFunction (size ∷ []) f (record { name = name; args = args; result = r }) raised in
+      let Q : List Sort → Type 0 = λ a. FitsFunction (size ∷ []) f (record { name = name; args = a; result = the_sort }) raised in
+      subst P (sym is.0) (λ to. subst Q (sym is.1) (constant_fits f e size name raised h to)) to
+  function_fits rows f e size name args result raised h (inr is) wanted to =
+      let P : Sort → Type 0 = λ r. IsRaised (table_for rows f e size (record { name = name; args = args; result = r })) raised
+      → FitsFunction (size ∷ []) f (record { name = name; args = args; result = r }) raised in
+      subst P (sym is.0) (predicate_fits (rows f) f size name args raised (omega arith) is.1 (wanted is)) to
+
+  -- the next constant is an element too
+  next_fits : (b : Bool) (e n size : ℕ) → e + cond b (1 + n) n < size → cond b (e + 1) e + n < size
+  next_fits true e n size h = omega arith
+  next_fits false e n size h = h
+
+  tables_fit : (rows : ℕ → List Row) (f e size : ℕ) (functions : List Function) (raised : List Table) → e + constants_in functions < size
+      → AllByRecursion (λ function. IsConstant function ⊎ IsPredicate function) functions
+      → ((k : ℕ) (d : Function) → k < length functions → WantedRows rows size (f + k) (get_or functions k d))
+      → AllZip IsRaised (tables_from rows f e size functions) raised
+      → FitFunctions (size ∷ []) f functions raised
+  tables_fit rows f e size [] [] h each wanted to = tt
+  tables_fit rows f e size [] (r ∷ raised) h each wanted to = absurd to
+  tables_fit rows f e size (function ∷ functions) [] h each wanted to = absurd to
+  tables_fit rows f e size (function ∷ functions) (r ∷ raised) h each wanted to = (
+    function_fits rows f e size function.name function.args function.result r (omega arith) each.0
+        (let at : f + 0 ≡ f = omega arith in subst (λ n. WantedRows rows size n function) at (wanted 0 function (omega arith))) to.0,
+    tables_fit rows (f + 1) (next_element function e) size functions raised
+        (next_fits (is_constant function) e (constants_in functions) size h) each.1
+        (λ k d h. let at : f + suc k ≡ f + 1 + k = omega arith in
+        subst (λ n. WantedRows rows size n (get_or functions k d)) at (wanted (suc k) d (omega arith)))
+        to.1,
+  )
+
+  nothing : (raised : List Table) → AllZip IsRaised [] raised → FitFunctions [] 0 [] raised
+  nothing [] to = tt
+  nothing (r ∷ raised) to = absurd to
+
+  -- one table each, whatever the number of sorts
+  all_fit : (sorts : List (List ℕ)) (rows : ℕ → List Row) (functions : List Function) (raised : List Table) → length sorts ≤ 1
+      → (sorts ≡ [] → functions ≡ []) → AllByRecursion (λ function. IsConstant function ⊎ IsPredicate function) functions
+      → ((k : ℕ) (d : Function) → k < length functions → WantedRows rows (size_of functions) k (get_or functions k d))
+      → AllZip IsRaised (tables_from rows 0 0 (size_of functions) functions) raised
+      → FitFunctions (replicate (length sorts) (size_of functions)) 0 functions raised
+  all_fit [] rows functions raised few named each wanted to =
+      let P : List Function → Type 0 = λ fs. AllZip IsRaised (tables_from rows 0 0 (size_of functions) fs) raised
+      → FitFunctions (replicate 0 (size_of functions)) 0 fs raised in
+      subst P (sym (named refl)) (nothing raised) to
+  all_fit (sort ∷ []) rows functions raised few named each wanted to =
+      tables_fit rows 0 0 (size_of functions) functions raised (omega (arith, counted functions)) each
+      (λ k d h. let at : k ≡ 0 + k = omega arith in subst (λ n. WantedRows rows (size_of functions) n (get_or functions k d)) at (wanted k d h)) to
+  all_fit (sort ∷ other ∷ sorts) rows functions raised few named each wanted to = absurd (omega arith)
+
+-- the rows of atoms are rows of their predicates' tables
+pub wanted_rows : (functions : List Function) (atoms : List GroundAtom) (truths : List Bool) → All (IsOver functions (constants_of functions)) atoms
+    → (k : ℕ) (d : Function) → k < length functions → WantedRows (rows_of atoms truths) (size_of functions) k (get_or functions k d)
+wanted_rows functions atoms truths over k d h is =
+    all_rows (IsRow (size_of functions ∷ []) (knots_of (size_of functions) (get_or functions k d).args) sort.Truth) k atoms truths
+    (λ i none within e.
+    let atom = get_or atoms i none in
+    let on = over i none within in
+    let same : on.predicate.0 ≡ get_or functions k d =
+    sym (get_or_from_slice_get functions atom.predicate on.predicate.0 d on.predicate.1) ∙ ap (λ f. get_or functions f d) (sym e) in
+    let many : length atom.args ≡ length (get_or functions k d).args = on.predicate.3 ∙ ap (λ (f : Function). length f.args) same in
+    let below = recursion_from_All (λ id. id.0 < size_of functions) atom.args
+    (All-weaker (λ id. id.0 < length (constants_of functions)) (λ id. id.0 < size_of functions)
+    (λ id h. omega (arith, h, length_constants 0 functions, counted functions)) atom.args on.args) in
+    (stand (size_of functions) (get_or functions k d).args atom.args many below, (tt, tt)))
+
+-- the model of an elementary script fits it
+pub model_fits : RowsFit → (script : Script) (sizes : List ℕ) (tables : List Table) (atoms : List GroundAtom) (truths : List Bool) → IsElementary script
+    → All (IsOver script.functions (constants_of script.functions)) atoms
+    → sizes ≡ replicate (length script.sorts) (size_of script.functions)
+    → AllZip IsRaised (tables_from (rows_of atoms truths) 0 0 (size_of script.functions) script.functions) tables
+    → Fits script (record { sizes = sizes; tables = tables })
+model_fits fit script sizes tables atoms truths is over same to =
+    let P : List ℕ → Type 0 = λ ss. Fits script (record { sizes = ss; tables = tables }) in
+    subst P (sym same)
+    (record {
+      sorts = length-replicate (length script.sorts) (size_of script.functions);
+      sizes = All-replicate (λ size. 1 ≤ size) (length script.sorts) (size_of script.functions) (omega arith);
+      tables = all_fit fit script.sorts (rows_of atoms truths) script.functions tables is.sorts is.named is.functions
+          (wanted_rows script.functions atoms truths over) to;
+    })

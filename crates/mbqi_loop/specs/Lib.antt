@@ -1,0 +1,5 @@
+pub mod Substitution
+pub mod Instance
+pub mod Lawful
+pub mod Refuted
+pub mod Outcome
