@@ -1,5 +1,5 @@
 -- The texts of terms and array terms by their kinds, as the pieces that are written one behind the other.
-use Rattle.std.proofs.Common.{◌≡◌, ℕ, ℤ, Bool, true, false, ◌&&◌, List, [], ◌∷◌, ◌++◌, map, codes, sym, ap, ◌∙◌, append_assoc, append-nil}
+use Rattle.std.proofs.Common.{◌≡◌, ℕ, ℤ, Bool, true, false, ◌&&◌, List, [], ◌∷◌, ◌++◌, map, codes, sym, ap, ◌∙◌}
 use Rattle.mbqi_terms.specs.declared.script.Script.{Script}
 use Rattle.mbqi_terms.specs.declared.sort.Sort.{Sort}
 use Rattle.mbqi_terms.specs.declared.term.ArrayTerm.{ArrayTerm}
@@ -11,7 +11,7 @@ use Rattle.mbqi_terms.specs.declared.term.Symbol.{Symbol}
 use Rattle.mbqi_terms.specs.declared.term.Term.{Term}
 use Rattle.mbqi_terms.specs.declared.term.Term.TheVariants as term
 use Rattle.smtlib_printer.specs.Text.{SymbolText, array_layer, array_text_with, is_nothing, map_text, number_text, sort_text, spaced, spaced_rest, symbol_layer, symbol_text_with, term_layer, term_text_with}
-use Rattle.smtlib_printer.proofs.Pieces.{alone, in_brackets, nothing-map, one_part, three_parts, two_parts}
+use Rattle.smtlib_printer.proofs.Pieces.{alone, const_parts, in_brackets, map_parts, nothing-map, one_part, three_parts, two_parts}
 
 pub plus_text : (script : Script) (marks : ℕ) (t : Term) (n : ℤ) → term_text_with script marks (term.Plus t n) ≡ codes "(+ " ++ (term_text_with script marks t ++ (codes " " ++ (number_text n ++ codes ")")))
 plus_text script marks t n =
@@ -57,10 +57,10 @@ pub const_text : (script : Script) (marks : ℕ) (s : Sort) (v : Term) → array
 const_text script marks s v =
     ap (array_text_with script marks) (sym (array.rolls-Const s v))
     ∙ (fold-roll-ArrayTerm (List ℕ) SymbolText (List ℕ) (array_layer script) (symbol_layer script) (term_layer script marks) (ArrayTerm-F.Const s v)
-    ∙ simp (append_assoc, append-nil))
+    ∙ const_parts (sort_text script s) (term_text_with script marks v))
 
 pub map_is_text : (script : Script) (marks : ℕ) (f : MapOp) (arrays : List ArrayTerm) → array_text_with script marks (array.Map f arrays) ≡ codes "((_ map " ++ (map_text script f ++ (codes ")" ++ (spaced_rest (map (array_text_with script marks) arrays) ++ codes ")")))
 map_is_text script marks f arrays =
     ap (array_text_with script marks) (sym (array.rolls-Map f arrays))
     ∙ (fold-roll-ArrayTerm (List ℕ) SymbolText (List ℕ) (array_layer script) (symbol_layer script) (term_layer script marks) (ArrayTerm-F.Map f arrays)
-    ∙ simp (append_assoc, append-nil))
+    ∙ map_parts (map_text script f) (map (array_text_with script marks) arrays))

@@ -10,7 +10,6 @@ use std::alloc::AllocError;
 
 /// Appends the text of a formula, where variables have so many question marks.
 #[cycle(write_formula)]
-#[tactic(auto, using(crate::proofs::FormulaTexts::not_text, crate::proofs::FormulaTexts::all_text, crate::proofs::FormulaTexts::any_text, crate::proofs::FormulaTexts::iff_text, crate::proofs::FormulaTexts::choose_text, crate::proofs::FormulaTexts::forall_text, crate::proofs::FormulaTexts::exists_text))]
 pub fn write_formula_with(
     script: &Script,
     marks: usize,
@@ -25,21 +24,25 @@ pub fn write_formula_with(
         Formula::Equal(s, t) => write_terms(script, marks, b"=", s, t, into),
         Formula::AtMost(s, t) => write_terms(script, marks, b"<=", s, t, into),
         Formula::SameArray(a, b) => write_same_arrays(script, marks, a, b, into),
+        #[tactic(auto, using(crate::proofs::FormulaTexts::not_text))]
         Formula::Not(f) => {
             into.extend_from_slice(b"(not ")?;
             write_formula_with(script, marks, f.get(), into)?;
             into.extend_from_slice(b")")
         }
+        #[tactic(auto, using(crate::proofs::FormulaTexts::all_text))]
         Formula::All(fs) => {
             into.extend_from_slice(b"(and")?;
             write_more_formulas(script, marks, fs.as_slice(), into)?;
             into.extend_from_slice(b")")
         }
+        #[tactic(auto, using(crate::proofs::FormulaTexts::any_text))]
         Formula::Any(fs) => {
             into.extend_from_slice(b"(or")?;
             write_more_formulas(script, marks, fs.as_slice(), into)?;
             into.extend_from_slice(b")")
         }
+        #[tactic(auto, using(crate::proofs::FormulaTexts::iff_text))]
         Formula::Iff(f, g) => {
             into.extend_from_slice(b"(= ")?;
             write_formula_with(script, marks, f.get(), into)?;
@@ -47,6 +50,7 @@ pub fn write_formula_with(
             write_formula_with(script, marks, g.get(), into)?;
             into.extend_from_slice(b")")
         }
+        #[tactic(auto, using(crate::proofs::FormulaTexts::choose_text))]
         Formula::Choose(c, f, g) => {
             into.extend_from_slice(b"(ite ")?;
             write_formula_with(script, marks, c.get(), into)?;
@@ -56,6 +60,7 @@ pub fn write_formula_with(
             write_formula_with(script, marks, g.get(), into)?;
             into.extend_from_slice(b")")
         }
+        #[tactic(auto, using(crate::proofs::FormulaTexts::forall_text))]
         Formula::Forall(binders, f) => {
             into.extend_from_slice(b"(forall ")?;
             write_binders(script, marks, binders.as_slice(), into)?;
@@ -63,6 +68,7 @@ pub fn write_formula_with(
             write_formula_with(script, marks, f.get(), into)?;
             into.extend_from_slice(b")")
         }
+        #[tactic(auto, using(crate::proofs::FormulaTexts::exists_text))]
         Formula::Exists(binders, f) => {
             into.extend_from_slice(b"(exists ")?;
             write_binders(script, marks, binders.as_slice(), into)?;

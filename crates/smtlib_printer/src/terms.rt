@@ -11,7 +11,6 @@ use std::alloc::AllocError;
 
 /// Appends the text of a term, where variables have so many question marks.
 #[cycle(write)]
-#[tactic(auto, using(crate::proofs::TermTexts::plus_text, crate::proofs::TermTexts::alone_text, crate::proofs::TermTexts::apply_text, crate::proofs::TermTexts::read_text, crate::proofs::TermTexts::default_text))]
 pub fn write_term_with(
     script: &Script,
     marks: usize,
@@ -22,6 +21,7 @@ pub fn write_term_with(
 {
     match term {
         Term::Num(n) => write_number(*n, into),
+        #[tactic(auto, using(crate::proofs::TermTexts::plus_text))]
         Term::Plus(t, n) => {
             into.extend_from_slice(b"(+ ")?;
             write_term_with(script, marks, t.get(), into)?;
@@ -31,6 +31,7 @@ pub fn write_term_with(
         }
         Term::Var(place) => write_variable(marks, *place, into),
         Term::Truth(truth) => write_truth(*truth, into),
+        #[tactic(auto, using(crate::proofs::TermTexts::alone_text, crate::proofs::TermTexts::apply_text))]
         Term::Apply(symbol, args) => {
             if stands_alone(script, marks, symbol, args.as_slice()) {
                 return write_symbol(script, marks, symbol, into);
@@ -40,6 +41,7 @@ pub fn write_term_with(
             write_more_terms(script, marks, args.as_slice(), into)?;
             into.extend_from_slice(b")")
         }
+        #[tactic(auto, using(crate::proofs::TermTexts::read_text))]
         Term::Read(a, i) => {
             into.extend_from_slice(b"(select ")?;
             write_array_with(script, marks, a.get(), into)?;
@@ -47,6 +49,7 @@ pub fn write_term_with(
             write_term_with(script, marks, i.get(), into)?;
             into.extend_from_slice(b")")
         }
+        #[tactic(auto, using(crate::proofs::TermTexts::default_text))]
         Term::Default(a) => {
             into.extend_from_slice(b"(default ")?;
             write_array_with(script, marks, a.get(), into)?;
@@ -131,7 +134,6 @@ fn write_more_terms(
 
 /// Appends the text of an array term, where variables have so many question marks.
 #[cycle(write)]
-#[tactic(auto, using(crate::proofs::TermTexts::store_text, crate::proofs::TermTexts::const_text, crate::proofs::TermTexts::map_is_text))]
 pub fn write_array_with(
     script: &Script,
     marks: usize,
@@ -142,6 +144,7 @@ pub fn write_array_with(
 {
     match array {
         ArrayTerm::Name(function) => write_function_name(script, *function, into),
+        #[tactic(auto, using(crate::proofs::TermTexts::store_text))]
         ArrayTerm::Store(a, i, v) => {
             into.extend_from_slice(b"(store ")?;
             write_array_with(script, marks, a.get(), into)?;
@@ -151,6 +154,7 @@ pub fn write_array_with(
             write_term_with(script, marks, v.get(), into)?;
             into.extend_from_slice(b")")
         }
+        #[tactic(auto, using(crate::proofs::TermTexts::const_text))]
         ArrayTerm::Const(sort, v) => {
             into.extend_from_slice(b"((as const ")?;
             write_sort(script, *sort, into)?;
@@ -158,6 +162,7 @@ pub fn write_array_with(
             write_term_with(script, marks, v.get(), into)?;
             into.extend_from_slice(b")")
         }
+        #[tactic(auto, using(crate::proofs::TermTexts::map_is_text))]
         ArrayTerm::Map(op, arrays) => {
             into.extend_from_slice(b"((_ map ")?;
             write_map_op(script, *op, into)?;
