@@ -109,6 +109,9 @@ symbol_text_with script marks s = fold-Symbol (List ℕ) SymbolText (List ℕ) (
 abbrev pub array_text_with : Script → ℕ → ArrayTerm → List ℕ
 array_text_with script marks a = fold-ArrayTerm (List ℕ) SymbolText (List ℕ) (array_layer script) (symbol_layer script) (term_layer script marks) a
 
+abbrev pub terms_text_with : Script → ℕ → List Term → List ℕ
+terms_text_with script marks terms = list_text (map (term_text_with script marks) terms)
+
 -- `(?k S)`
 abbrev pub binder_text : Script → ℕ → Binder → List ℕ
 binder_text script marks binder = list_text (variable_text marks binder.place ∷ sort_text script binder.sort ∷ [])

@@ -16,7 +16,7 @@ mod terms;
 
 pub use formulas::write_formula_with;
 pub use names::{question_marks, write_name};
-pub use terms::{write_array_with, write_term_with};
+pub use terms::{write_array_with, write_term_with, write_terms_with};
 
 use mbqi_terms::{ArrayTerm, Formula, Script, Term};
 use std::alloc::AllocError;

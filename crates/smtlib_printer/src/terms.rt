@@ -1,7 +1,7 @@
 //! Terms and array terms.
 
 ghost use Rattle.std.specs.Prelude.{◌≡◌, ◌&&◌, [], ◌∷◌, ◌++◌, map, codes, decimal, OnOk};
-ghost use Rattle.smtlib_printer.specs.Text.{array_text_with, is_nothing, spaced, spaced_rest, symbol_text_with, term_text_with};
+ghost use Rattle.smtlib_printer.specs.Text.{array_text_with, is_nothing, spaced, spaced_rest, symbol_text_with, term_text_with, terms_text_with};
 
 use crate::names::{write_function_name, write_sort_name, write_variable};
 use crate::sorts::{write_map_op, write_number, write_sort, write_truth};
@@ -113,6 +113,23 @@ fn write_skolem(assertion: usize, place: usize, into: &mut Vec<u8>) -> Result<()
     into.extend_from_slice(Buffer::new().format(assertion).as_bytes())?;
     into.extend_from_slice(b" ")?;
     into.extend_from_slice(Buffer::new().format(place).as_bytes())
+}
+
+/// Appends a list of terms in brackets, where variables have so many question marks.
+pub fn write_terms_with(
+    script: &Script,
+    marks: usize,
+    terms: &[Term],
+    into: &mut Vec<u8>,
+) -> Result<(), AllocError>
+    ensures { OnOk result (into.new.items ≡ into.old.items ++ terms_text_with script.now marks terms.now) }
+{
+    into.extend_from_slice(b"(")?;
+    if let [first, rest @ ..] = terms {
+        write_term_with(script, marks, first, into)?;
+        write_more_terms(script, marks, rest, into)?;
+    }
+    into.extend_from_slice(b")")
 }
 
 /// Appends terms, each behind a blank.
