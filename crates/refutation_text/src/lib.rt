@@ -1,0 +1,61 @@
+//! The text of a refutation: the instances of assertions that no model makes true together.
+//!
+//! Start with [`write_refutation`].
+
+#![tactic(auto)]
+
+ghost use Rattle.std.specs.Prelude.{◌≡◌, ◌++◌, OnOk};
+ghost use Rattle.refutation_text.specs.RefutationText.{instance_text, instances_text, refutation_text};
+
+use itoa::Buffer;
+use mbqi_terms::{InstanceLine, Script};
+use smtlib_printer::{question_marks, write_formula_with, write_terms_with};
+use std::alloc::AllocError;
+
+/// Appends the lines of a refutation of the script: `unsat`, the instances in order, and the closing bracket. The
+/// one error is want of memory, after which a front of the text may stand there.
+#[tactic(auto, unfolding(crate::specs::RefutationText::refutation_text))]
+pub fn write_refutation(
+    script: &Script,
+    lines: &[InstanceLine],
+    into: &mut Vec<u8>,
+) -> Result<(), AllocError>
+    ensures { OnOk result (into.new.items ≡ into.old.items ++ refutation_text script.now lines.now) }
+{
+    into.extend_from_slice(b"unsat\n(refutation 1\n")?;
+    write_instances(script, question_marks(script), lines, into)?;
+    into.extend_from_slice(b")\n")
+}
+
+/// Appends the instances, each with a line feed.
+fn write_instances(
+    script: &Script,
+    marks: usize,
+    lines: &[InstanceLine],
+    into: &mut Vec<u8>,
+) -> Result<(), AllocError>
+    ensures { OnOk result (into.new.items ≡ into.old.items ++ instances_text script.now marks lines.now) }
+{
+    for line in lines {
+        write_instance(script, marks, line, into)?;
+        into.extend_from_slice(b"\n")?;
+    }
+    Ok(())
+}
+
+fn write_instance(
+    script: &Script,
+    marks: usize,
+    line: &InstanceLine,
+    into: &mut Vec<u8>,
+) -> Result<(), AllocError>
+    ensures { OnOk result (into.new.items ≡ into.old.items ++ instance_text script.now marks line.now) }
+{
+    into.extend_from_slice(b"(instance ")?;
+    into.extend_from_slice(Buffer::new().format(line.assertion).as_bytes())?;
+    into.extend_from_slice(b" ")?;
+    write_terms_with(script, marks, line.terms.as_slice(), into)?;
+    into.extend_from_slice(b" ")?;
+    write_formula_with(script, marks, &line.formula, into)?;
+    into.extend_from_slice(b")")
+}

@@ -1,0 +1,4 @@
+pub mod Pieces
+pub mod Marks
+pub mod TermTexts
+pub mod FormulaTexts
