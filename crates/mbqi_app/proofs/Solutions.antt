@@ -44,9 +44,9 @@ sat_or_unsat bytes (RefutationRefused refusal) text is = absurd is
 -- what holds of both holds of it
 pub of_both : (P : Status → Type 0) (bytes : List ℕ) (status : Status) (text : List ℕ) → IsSolution bytes status text → P Sat → P Unsat → P status
 of_both P bytes status text is s u = elim (sat_or_unsat bytes status text is) [
-    | inl e ↦ subst P (sym e) s
-    | inr e ↦ subst P (sym e) u
-  ]
+  | inl e ↦ subst P (sym e) s
+  | inr e ↦ subst P (sym e) u
+]
 
 pub has_meaning : (bytes : List ℕ) (status : Status) (text : List ℕ) → IsSolution bytes status text → (script : Script) × Means bytes script
 has_meaning bytes Sat text is = (is.0, is.2)

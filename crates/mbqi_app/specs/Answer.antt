@@ -18,7 +18,7 @@ use Rattle.mbqi_loop.specs.Refuted.{IsRefuted}
 use Rattle.mbqi_loop.specs.declared.outcome.Outcome.{Outcome}
 use Rattle.mbqi_loop.specs.declared.outcome.Outcome.TheVariants as outcome
 use Rattle.mbqi_terms.specs.declared.instance.InstanceLine.{InstanceLine}
-use Rattle.refutation_text.specs.Text.{refutation_text}
+use Rattle.refutation_text.specs.RefutationText.{refutation_text}
 
 -- How many bytes a file may have.
 abbrev pub file_limit : ℕ

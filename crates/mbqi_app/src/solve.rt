@@ -54,7 +54,7 @@ pub fn solve<F: Shelf, W: Sink, L: Ledger>(
 {
     let mut bytes = Vec::new(alloc);
     match shelf.fetch(alloc, file, FILE_LIMIT, &mut bytes) {
-        Ok(()) => answer(alloc, bytes.as_slice(), out, steps),
+        Ok(()) => write_answer(alloc, bytes.as_slice(), out, steps),
         Err(FetchFault::Failed) => Status::ReadFault,
         Err(FetchFault::TooLong) => Status::TooLong,
         Err(FetchFault::Memory) => Status::Memory,
@@ -62,7 +62,7 @@ pub fn solve<F: Shelf, W: Sink, L: Ledger>(
 }
 
 /// Decides the script of the bytes, and writes the answer when it is whole.
-fn answer<W: Sink, L: Ledger>(
+fn write_answer<W: Sink, L: Ledger>(
     alloc: Global,
     bytes: &[u8],
     out: &mut W,
