@@ -1,12 +1,14 @@
 pub mod Finding
 pub mod Growth
 pub mod Heads
+pub mod InForm
 pub mod Levels
 pub mod Matching
 pub mod NodeTest
 pub mod Options
 pub mod Places
 pub mod Putting
+pub mod SampleForms
 pub mod Shifts
 pub mod Sorted
 pub mod Sums

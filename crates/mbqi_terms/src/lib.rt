@@ -16,6 +16,8 @@ pub mod sort;
 pub mod store;
 pub mod term;
 pub mod term_id;
+#[cfg(test)]
+mod tests;
 
 pub use arrays::{ArrayPair, ArrayPairs, Arrays, SkolemSort, SkolemSorts};
 pub use copy::{

@@ -1,4 +1,5 @@
 pub mod FaultKind
+pub mod Refusal
 pub mod Status
 pub mod Sum
 pub mod Value
