@@ -1,6 +1,6 @@
 use crate::{write_array, write_formula, write_name, write_term};
 use mbqi_terms::{
-    ArrayTerm, Binder, Formula, Function, MapOp, Plain, Script, Sort, Symbol, Term,
+    ArrayTerm, Binder, Formula, Function, Plain, Script, Sort, Symbol, Term,
 };
 use mbqi_values::Sequence;
 use sqlite_items::{Boxed, Items};
@@ -31,28 +31,6 @@ fn script(alloc: Global, first: &[u8], second: &[u8]) -> Result<Script, AllocErr
     })
 }
 
-/// Asserts the text of a term of a script with the functions `x` and `two words`.
-fn assert_term<R: Abort>(rt: &R, alloc: Global, t: &Term, text: &[u8]) -> Result<(), AllocError> {
-    let script = script(alloc, b"x", b"two words")?;
-    let mut into = Vec::new(alloc);
-    write_term(&script, t, &mut into)?;
-    assert_eq!(rt; into.as_slice(), text);
-    Ok(())
-}
-
-fn assert_array<R: Abort>(
-    rt: &R,
-    alloc: Global,
-    a: &ArrayTerm,
-    text: &[u8],
-) -> Result<(), AllocError> {
-    let script = script(alloc, b"x", b"two words")?;
-    let mut into = Vec::new(alloc);
-    write_array(&script, a, &mut into)?;
-    assert_eq!(rt; into.as_slice(), text);
-    Ok(())
-}
-
 /// Asserts the text of a formula of a script whose first function has that name.
 fn assert_formula<R: Abort>(
     rt: &R,
@@ -66,10 +44,6 @@ fn assert_formula<R: Abort>(
     write_formula(&script, f, &mut into)?;
     assert_eq!(rt; into.as_slice(), text);
     Ok(())
-}
-
-fn constant(alloc: Global, function: usize) -> Term {
-    Term::Apply(Symbol::Declared(function), Items::new(alloc))
 }
 
 fn not_equal(alloc: Global, left: i128, right: i128) -> Result<Formula, AllocError> {
@@ -136,56 +110,32 @@ fn variables_differ_from_declared_names(rt: HostRuntime) -> Result<(), AllocErro
     Ok(())
 }
 
-#[test]
-fn numbers_and_sums(rt: HostRuntime) -> Result<(), AllocError> {
-    let alloc = rt.alloc();
-    assert_term(&rt, alloc, &Term::Num(-3), b"(- 3)")?;
-    let sum = Term::Plus(Boxed::new(alloc, constant(alloc, 0))?, -3);
-    assert_term(&rt, alloc, &sum, b"(+ x (- 3))")?;
-    assert_term(&rt, alloc, &constant(alloc, 1), b"|two words|")?;
-    assert_term(&rt, alloc, &constant(alloc, 2), b"||")
-}
-
-#[test]
-fn hidden_names(rt: HostRuntime) -> Result<(), AllocError> {
-    let alloc = rt.alloc();
-    let mut args = Items::new(alloc);
-    args.push(Term::Var(0))?;
-    let skolem = Term::Apply(Symbol::Skolem(0, 1), args);
-    assert_term(&rt, alloc, &skolem, b"(@sk 0 1 ?0)")?;
-    let seed = Term::Apply(Symbol::Seed(1), Items::new(alloc));
-    assert_term(&rt, alloc, &seed, b"(@seed |Int|)")?;
-    let far = Term::Apply(Symbol::Far, Items::new(alloc));
-    assert_term(&rt, alloc, &far, b"@far")
-}
-
-#[test]
-fn array_where_two_arrays_differ(rt: HostRuntime) -> Result<(), AllocError> {
-    let alloc = rt.alloc();
+/// The array in which the first function has 7 at 3.
+fn stored(alloc: Global) -> Result<ArrayTerm, AllocError> {
     let name = Boxed::new(alloc, ArrayTerm::Name(0))?;
     let index = Boxed::new(alloc, Term::Num(3))?;
-    let store = ArrayTerm::Store(name, index, Boxed::new(alloc, Term::Num(7))?);
-    let left = Boxed::new(alloc, ArrayTerm::Name(1))?;
-    let symbol = Symbol::Diff(left, Boxed::new(alloc, store)?);
-    let differ = Term::Apply(symbol, Items::new(alloc));
-    assert_term(&rt, alloc, &differ, b"(@diff |two words| (store x 3 7))")
+    Ok(ArrayTerm::Store(name, index, Boxed::new(alloc, Term::Num(-7))?))
 }
 
 #[test]
-fn array_of_one_value_and_pointwise_map(rt: HostRuntime) -> Result<(), AllocError> {
+fn index_where_two_arrays_differ(rt: HostRuntime) -> Result<(), AllocError> {
+    let alloc = rt.alloc();
+    let left = Boxed::new(alloc, ArrayTerm::Name(1))?;
+    let symbol = Symbol::Diff(left, Boxed::new(alloc, stored(alloc)?)?);
+    let differ = Term::Apply(symbol, Items::new(alloc));
+    let mut into = Vec::new(alloc);
+    write_term(&script(alloc, b"x", b"two words")?, &differ, &mut into)?;
+    assert_eq!(rt; into.as_slice(), b"(@diff |two words| (store x 3 (- 7)))".as_slice());
+    Ok(())
+}
+
+#[test]
+fn array_of_one_value(rt: HostRuntime) -> Result<(), AllocError> {
     let alloc = rt.alloc();
     let sort = Sort::Array(Plain::Elem(0), Plain::Truth);
-    let value = Boxed::new(alloc, Term::Truth(true))?;
-    let one_value = ArrayTerm::Const(sort, value);
-    assert_array(&rt, alloc, &one_value, b"((as const (Array S Bool)) true)")?;
-    let mut arrays = Items::new(alloc);
-    arrays.push(one_value)?;
-    arrays.push(ArrayTerm::Name(0))?;
-    let map = ArrayTerm::Map(MapOp::And, arrays);
-    assert_array(
-        &rt,
-        alloc,
-        &map,
-        b"((_ map and) ((as const (Array S Bool)) true) x)",
-    )
+    let array = ArrayTerm::Const(sort, Boxed::new(alloc, Term::Truth(true))?);
+    let mut into = Vec::new(alloc);
+    write_array(&script(alloc, b"x", b"f")?, &array, &mut into)?;
+    assert_eq!(rt; into.as_slice(), b"((as const (Array S Bool)) true)".as_slice());
+    Ok(())
 }
