@@ -7,6 +7,9 @@
 ghost use Rattle.std.specs.Prelude.{◌≡◌, ◌++◌, OnOk};
 ghost use Rattle.refutation_text.specs.RefutationText.{instance_text, instances_text, refutation_text};
 
+#[cfg(test)]
+mod tests;
+
 use itoa::Buffer;
 use mbqi_terms::{InstanceLine, Script};
 use smtlib_printer::{question_marks, write_formula_with, write_terms_with};

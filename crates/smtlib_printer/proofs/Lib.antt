@@ -1,4 +1,6 @@
-pub mod Pieces
-pub mod Marks
-pub mod TermTexts
 pub mod FormulaTexts
+pub mod Longest
+pub mod Marks
+pub mod Pieces
+mod Rows
+pub mod TermTexts

@@ -13,6 +13,8 @@ mod formulas;
 mod names;
 mod sorts;
 mod terms;
+#[cfg(test)]
+mod tests;
 
 pub use formulas::write_formula_with;
 pub use names::{question_marks, write_name};

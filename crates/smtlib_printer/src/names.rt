@@ -1,6 +1,6 @@
 //! Names of a script, and those of its variables.
 
-ghost use Rattle.std.specs.Prelude.{◌≡◌, ◌++◌, ◌==◌, OnOk};
+ghost use Rattle.std.specs.Prelude.{◌≡◌, ◌<◌, ℕ, true, false, ◌++◌, ◌==◌, OnOk};
 ghost use Rattle.std.specs.List.{list_all, list_any};
 ghost use Rattle.sexpr_text.specs.Bytes.{is_symbol_byte};
 ghost use Rattle.sexpr_text.specs.Text.{is_simple};
@@ -91,8 +91,18 @@ pub(crate) fn write_variable(
 
 /// How many question marks begin a variable of the script: the fewest, but at least one, so that no declared name
 /// begins with them and then a digit.
-#[tactic(auto, using(crate::proofs::Marks::first_free_here, crate::proofs::Marks::first_free_last, crate::proofs::Marks::first_free_next), unfolding(crate::specs::Names::marks_of))]
+#[tactic(auto, using(crate::proofs::Longest::marks_fewest, crate::proofs::Longest::marks_free, crate::proofs::Longest::some_marks))]
 pub fn question_marks(script: &Script) -> usize
+    ensures value { result ≡ marks_of script.now }
+    ensures some { 0 < result }
+    ensures free { is_begun script.now result ≡ false }
+    ensures fewest { (k : ℕ) → 0 < k → k < result → is_begun script.now k ≡ true }
+{
+    marks_of(script)
+}
+
+#[tactic(auto, using(crate::proofs::Marks::first_free_here, crate::proofs::Marks::first_free_last, crate::proofs::Marks::first_free_next), unfolding(crate::specs::Names::marks_of))]
+fn marks_of(script: &Script) -> usize
     ensures { result ≡ marks_of script.now }
 {
     let end = longest(script.sorts.as_slice()).max(longest_function(script.functions.as_slice()));

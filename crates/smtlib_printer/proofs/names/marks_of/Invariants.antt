@@ -1,6 +1,6 @@
 use Rattle.std.proofs.Common.{◌≡◌, ◌-◌}
 use Rattle.smtlib_printer.specs.Names.{first_free, is_begun}
-use Rattle.smtlib_printer.proofs.names.question_marks.Given as goal
+use Rattle.smtlib_printer.proofs.names.marks_of.Given as goal
 
 -- the first free number from here on is the one from the start on
 abbrev pub invariant-loop-marks : goal.invariant-loop-marks
