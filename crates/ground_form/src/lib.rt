@@ -12,3 +12,6 @@ pub mod pool;
 pub use atoms::{AtomTable, GroundAtom};
 pub use clauses::clauses_of;
 pub use pool::{Pool, pool_of};
+
+#[cfg(test)]
+mod tests;
