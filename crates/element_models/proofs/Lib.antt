@@ -1,5 +1,6 @@
 pub mod AtomRows
 pub mod Counting
+pub mod Example
 pub mod Filling
 pub mod Fitting
 pub mod Knots

@@ -1,3 +1,4 @@
 pub mod Elements
+pub mod Example
 pub mod Filling
 pub mod Rows
