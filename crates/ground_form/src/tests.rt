@@ -3,11 +3,13 @@
 ghost use Rattle.std.specs.Prelude.{◌≡◌, length, map, slice_get, Some, All, IfOk};
 ghost use Rattle.std.specs.List.{AllByRecursion};
 ghost use Rattle.mbqi_terms.specs.declared.script.Function.{Function};
+ghost use Rattle.ground_form.specs.Atoms.{formulas_in};
 ghost use Rattle.ground_form.specs.Profile.{IsClause, IsConstant, IsLiteral, IsPredicate, NamesConstant, constant, the_sort};
 
 use super::*;
 use mbqi_terms::{
-    Formula, Formulas, Function, Functions, Sort, Sorts, Symbol, Term, TermId, Terms,
+    Formula, Formulas, Function, Functions, InstanceLine, InstanceLines, Sort, Sorts, Symbol, Term,
+    TermId, Terms,
 };
 use mbqi_values::{Lit, Text};
 use sqlite_items::Boxed;
@@ -97,20 +99,31 @@ fn disjunction(alloc: Global, functions: &[Function]) -> Result<Formula, AllocEr
     Ok(Formula::Any(literals))
 }
 
-fn formulas(alloc: Global, functions: &[Function]) -> Result<Formulas, AllocError>
+// An instance of an assertion without variables.
+fn line(alloc: Global, formula: Formula) -> InstanceLine
+    ensures { result.formula ≡ formula }
+{
+    InstanceLine {
+        assertion: 0,
+        terms: Terms::new(alloc),
+        formula,
+    }
+}
+
+fn lines(alloc: Global, functions: &[Function]) -> Result<InstanceLines, AllocError>
     requires first { NamesConstant functions.now 0 }
     requires second { NamesConstant functions.now 1 }
     requires unary { (function : Function) × (slice_get functions.now 2 ≡ Some function)
         × IsPredicate function × (length function.args ≡ 1) }
     requires binary { (function : Function) × (slice_get functions.now 3 ≡ Some function)
         × IsPredicate function × (length function.args ≡ 2) }
-    ensures { IfOk result (All (IsClause functions.now)) }
+    ensures { IfOk result (λ lines. All (IsClause functions.now) (formulas_in lines)) }
 {
-    let mut formulas = Formulas::new(alloc);
-    formulas.push(literal(alloc, functions, 2, &[0], true)?)?;
-    formulas.push(literal(alloc, functions, 3, &[0, 1], false)?)?;
-    formulas.push(disjunction(alloc, functions)?)?;
-    Ok(formulas)
+    let mut lines = InstanceLines::new(alloc);
+    lines.push(line(alloc, literal(alloc, functions, 2, &[0], true)?))?;
+    lines.push(line(alloc, literal(alloc, functions, 3, &[0, 1], false)?))?;
+    lines.push(line(alloc, disjunction(alloc, functions)?))?;
+    Ok(lines)
 }
 
 #[test]
@@ -120,8 +133,8 @@ fn atoms_are_numbered_as_they_come(rt: HostRuntime) -> Result<(), Fail> {
     let functions = functions.as_slice();
     let pool = pool_of(alloc, functions)?;
     let mut table = AtomTable::new(alloc);
-    let formulas = formulas(alloc, functions)?;
-    let clauses = clauses_of(alloc, functions, &pool, &mut table, formulas.as_slice())?;
+    let lines = lines(alloc, functions)?;
+    let clauses = clauses_of(alloc, functions, &pool, &mut table, lines.as_slice())?;
     let expected: [&[Lit]; 3] = [
         &[Lit { atom: 0, yes: true }],
         &[Lit {

@@ -103,7 +103,7 @@ predicate_values : (sizes : List ℕ) (k : ℕ) (name : List ℕ) (args : List S
     → FitsFunction sizes k (record { name = name; args = args; result = sort.Truth }) table → IsTruth (looked_up_in table vs)
 predicate_values sizes k name args table vs fits =
     truth_shown sizes (looked_up_in table vs) (value_has sizes sort.Truth table.rows table.knots vs table.default
-        (rows_have sizes table.knots sort.Truth table.rows fits.fits.rows) fits.fits.default)
+    (rows_have sizes table.knots sort.Truth table.rows fits.fits.rows) fits.fits.default)
 
 found_value : (sizes : List ℕ) (k : ℕ) (name : List ℕ) (args : List Sort) (result : Sort) (table : Table) (vs : List Value) → result ≡ sort.Truth
     → FitsFunction sizes k (record { name = name; args = args; result = result }) table → IsTruth (looked_up_in table vs)
@@ -116,7 +116,7 @@ pub atom_value : (script : Script) (m : FunctionModel) (p : Point) (t : Term) �
 atom_value script m p t fits is =
     let n : 0 + is.0 ≡ is.0 = omega arith in
     let has : HasTable m.sizes 0 is.0 is.1 m.tables =
-        subst (λ k. HasTable m.sizes 0 k is.1 m.tables) n (table_there m.sizes 0 is.0 script.functions m.tables is.1 fits.tables is.4) in
+    subst (λ k. HasTable m.sizes 0 k is.1 m.tables) n (table_there m.sizes 0 is.0 script.functions m.tables is.1 fits.tables is.4) in
     let e : value_of m t p ≡ looked_up_in has.0 (map (λ (u : Term). value_of m u p) (map constant is.2)) =
-        ap (λ u. value_of m u p) is.3 ∙ (value_apply m p is.0 (map constant is.2) ∙ ap (λ o. looked_up o (map (λ (u : Term). value_of m u p) (map constant is.2))) has.1) in
+    ap (λ u. value_of m u p) is.3 ∙ (value_apply m p is.0 (map constant is.2) ∙ ap (λ o. looked_up o (map (λ (u : Term). value_of m u p) (map constant is.2))) has.1) in
     subst IsTruth (sym e) (found_value m.sizes is.0 is.1.name is.1.args is.1.result has.0 (map (λ (u : Term). value_of m u p) (map constant is.2)) is.5.0 has.2)

@@ -34,7 +34,7 @@ pub found_holds : (script : Script) (model : FunctionModel) (terms : List Term) 
 found_holds script model terms atoms truths clauses lines is fits same values below say found =
     let m : Meanings = values_in model in
     let agree : all_true (truths_by m terms atoms) clauses ≡ all_true (truth_at truths) clauses =
-        clauses_agree (length atoms) (truths_by m terms atoms) (truth_at truths) clauses (λ i h. ap is_true (values i h)) below in
+    clauses_agree (length atoms) (truths_by m terms atoms) (truth_at truths) clauses (λ i h. ap is_true (values i h)) below in
     let instances : list_all (truth_of m) (formulas_in lines) ≡ true = sym (say m) ∙ (agree ∙ found) in
     script_holds script model fits is
     (sym (lines_are_true m 0 script.assertions) ∙ (sym (ap (λ (ls : List InstanceLine). list_all (truth_of m) (formulas_in ls)) same) ∙ instances))

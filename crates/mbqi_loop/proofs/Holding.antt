@@ -78,12 +78,12 @@ holds_not gs m t h = h
 literal_holds : (script : Script) (m : FunctionModel) (f : Formula) → Fits script m → IsLiteral script.functions f → truth_of (values_in m) f ≡ true
     → HoldsAt script.functions m true f nowhere
 literal_holds script m f fits is h = let P : Formula → Type 0 = λ g. HoldsAt script.functions m true g nowhere in elim is.2 [
-    | inl e ↦ subst P (sym e) (holds_atom script.functions m is.0
-        (of_true (value_of m is.0 nowhere) (sym (truth_atom (values_in m) is.0) ∙ (sym (ap (truth_of (values_in m)) e) ∙ h))))
-    | inr e ↦ subst P (sym e) (holds_not script.functions m is.0
-        (of_false (value_of m is.0 nowhere) (atom_value script m nowhere is.0 fits is.1)
-        (sym (truth_not (values_in m) is.0) ∙ (sym (ap (truth_of (values_in m)) e) ∙ h))))
-  ]
+  | inl e ↦ subst P (sym e) (holds_atom script.functions m is.0
+      (of_true (value_of m is.0 nowhere) (sym (truth_atom (values_in m) is.0) ∙ (sym (ap (truth_of (values_in m)) e) ∙ h))))
+  | inr e ↦ subst P (sym e) (holds_not script.functions m is.0
+      (of_false (value_of m is.0 nowhere) (atom_value script m nowhere is.0 fits is.1)
+      (sym (truth_not (values_in m) is.0) ∙ (sym (ap (truth_of (values_in m)) e) ∙ h))))
+]
 
 which : {P : Type 0} (a b : Bool) → (a || b) ≡ true → (a ≡ true → P) → (b ≡ true → P) → P
 which true b h f g = f refl
@@ -115,7 +115,7 @@ assertions_hold : (script : Script) (m : FunctionModel) (assertions : List Asser
 assertions_hold script m [] fits all h = tt
 assertions_hold script m (a ∷ rest) fits all h =
     let parts : (truth_of (values_in m) a.formula ≡ true) × (list_all (λ (assertion : Assertion). truth_of (values_in m) assertion.formula) rest ≡ true) =
-        both (truth_of (values_in m) a.formula) (list_all (λ (assertion : Assertion). truth_of (values_in m) assertion.formula) rest) h in
+    both (truth_of (values_in m) a.formula) (list_all (λ (assertion : Assertion). truth_of (values_in m) assertion.formula) rest) h in
     (clause_holds script m a.formula fits all.0 parts.0, assertions_hold script m rest fits all.1 parts.1)
 
 -- where each assertion is true under the values of a model that fits, each holds in it

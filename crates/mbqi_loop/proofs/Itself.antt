@@ -77,11 +77,11 @@ instance_any i fs gs h = (gs, refl, each_any i fs gs h)
 literal_itself : (i : Instantiation) (functions : List Function) (f : Formula) → IsLiteral functions f → InstanceAt i true f f
 unfolding InstanceAt hidden-the_row-Formula-0 hidden hidden-the_row-Formula-1
 literal_itself i functions f is = elim is.2 [
-    | inl e ↦ let P : Formula → Type 0 = λ g. InstanceAt i true g g in
-        subst P (sym e) (ap (λ t. formula.Atom t) (sym (put_atom i.at functions is.0 is.1)))
-    | inr e ↦ let P : Formula → Type 0 = λ g. InstanceAt i true g g in
-        subst P (sym e) (ap (λ t. formula.Not (formula.Atom t)) (sym (put_atom i.at functions is.0 is.1)))
-  ]
+  | inl e ↦ let P : Formula → Type 0 = λ g. InstanceAt i true g g in
+      subst P (sym e) (ap (λ t. formula.Atom t) (sym (put_atom i.at functions is.0 is.1)))
+  | inr e ↦ let P : Formula → Type 0 = λ g. InstanceAt i true g g in
+      subst P (sym e) (ap (λ t. formula.Not (formula.Atom t)) (sym (put_atom i.at functions is.0 is.1)))
+]
 
 literals_themselves : (i : Instantiation) (functions : List Function) (fs : List Formula) → All (IsLiteral functions) fs → EachOf i fs fs
 literals_themselves i functions [] all = tt
@@ -98,9 +98,9 @@ clause_itself i functions f (inr is) =
 no_universal_literal : (functions : List Function) (f : Formula) (b : Bool) → IsLiteral functions f → universals_at f b ≡ []
 unfolding universals_at
 no_universal_literal functions f b is = elim is.2 [
-    | inl e ↦ ap (λ g. universals_at g b) e ∙ search (rules, formulas.the_lemmas)
-    | inr e ↦ ap (λ g. universals_at g b) e ∙ search (rules, formulas.the_lemmas)
-  ]
+  | inl e ↦ ap (λ g. universals_at g b) e ∙ search (rules, formulas.the_lemmas)
+  | inr e ↦ ap (λ g. universals_at g b) e ∙ search (rules, formulas.the_lemmas)
+]
 
 universals_any : (fs : List Formula) (b : Bool) → universals_at (formula.Any fs) b ≡ flat_map (λ (part : Bool → List Binder). part b) (map universals_at fs)
 unfolding universals_at
@@ -122,6 +122,9 @@ no_universal functions f b (inr is) =
 -- each assertion of clauses is an instance of itself
 pub assertion_itself : (script : Script) (k : ℕ) (a : Assertion) → slice_get script.assertions k ≡ Some a → IsClause script.functions a.formula
     → IsInstance script k [] a.formula
-assertion_itself script k a there is = (a, there,
-    (let P : List Binder → Type 0 = λ bs. AllZip (IsTermFor script.functions) bs [] in subst P (sym (no_universal script.functions a.formula true is)) tt),
-    clause_itself (start k (term_for (universals_at a.formula true) [])) script.functions a.formula is)
+assertion_itself script k a there is = (
+  a,
+  there,
+  (let P : List Binder → Type 0 = λ bs. AllZip (IsTermFor script.functions) bs [] in subst P (sym (no_universal script.functions a.formula true is)) tt),
+  clause_itself (start k (term_for (universals_at a.formula true) [])) script.functions a.formula is,
+)

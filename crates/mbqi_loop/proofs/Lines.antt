@@ -42,7 +42,7 @@ lines_are_instances script k (a ∷ assertions) there all =
     let z : k + zero ≡ k = omega arith in
     let here : slice_get script.assertions k ≡ Some a = subst (λ n. slice_get script.assertions n ≡ Some a) z (there zero a refl) in
     let next : AtOf script (k + 1) assertions = λ i b e. let s : k + suc i ≡ k + 1 + i = omega arith in
-        subst (λ n. slice_get script.assertions n ≡ Some b) s (there (suc i) b e) in
+    subst (λ n. slice_get script.assertions n ≡ Some b) s (there (suc i) b e) in
     All-cons (λ (line : InstanceLine). IsInstance script line.assertion line.terms line.formula) (record { assertion = k; terms = []; formula = a.formula })
     (instances_from (k + 1) assertions) (assertion_itself script k a here all.0) (lines_are_instances script (k + 1) assertions next all.1)
 

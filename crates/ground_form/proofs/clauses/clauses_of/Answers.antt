@@ -18,7 +18,7 @@ clause_of-requires-clause-clause c =
     let lines = c.args.lines.now in
     let i = c.loop-line.line-index in
     there_holds (IsClause c.args.functions.now) (formulas_in lines) i c.line-item.result.formula
-        (formula_there lines i c.line-item.result c.loop-line-test.true c.line-item.is) c.requires.clauses
+    (formula_there lines i c.line-item.result c.loop-line-test.true c.line-item.is) c.requires.clauses
 
 pub loop-line-preserved : goal.loop-line-preserved
 loop-line-preserved c =
