@@ -1,0 +1,13 @@
+; Who may read the report? Bob or the auditor may, bob may not, and no one but the owner may change it.
+(declare-sort Person 0)
+(declare-const ann Person)
+(declare-const bob Person)
+(declare-const auditor Person)
+(declare-fun reads (Person) Bool)
+(declare-fun changes (Person) Bool)
+(assert (or (reads bob) (reads auditor)))
+(assert (not (reads bob)))
+(assert (changes ann))
+(assert (not (changes bob)))
+(assert (or (not (changes ann)) (reads ann)))
+(check-sat)
