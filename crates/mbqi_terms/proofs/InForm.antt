@@ -1,5 +1,5 @@
 -- Terms in form, from what stands in them.
-use Rattle.std.proofs.Common.{◌≡◌, ℕ, zero, suc, Bool, ℤ, [], ◌∷◌, sym, subst, arith}
+use Rattle.std.proofs.Common.{◌≡◌, ℕ, zero, suc, ℤ, [], ◌∷◌, sym, subst, arith}
 use Rattle.std.specs.List.{Contains}
 use Rattle.std.specs.Option.{IfSome}
 use Rattle.mbqi_terms.specs.declared.sort.Sort.{Sort}
@@ -12,7 +12,7 @@ use Rattle.mbqi_terms.specs.declared.term.Term.TheVariants as term
 use Rattle.mbqi_terms.specs.Form.{Suits, FitPlaces, IsListed, IsLayerInForm, IsTermInForm}
 use Rattle.mbqi_terms.specs.Lists.{symbol_layer_places, sum_sort}
 use Rattle.mbqi_terms.specs.Tree.{Layer, IsPart}
-use Rattle.mbqi_terms.proofs.Levels.{out-num, out-plus, out-var, out-truth, out-apply, out-read, out-default}
+use Rattle.mbqi_terms.proofs.Levels.{out-num, out-plus, out-var, out-apply, out-read, out-default}
 
 module _ (l : Lists) where
   -- what stands directly in a level is in form
@@ -42,9 +42,6 @@ module _ (l : Lists) where
 
   pub variable_in_form : (k : ℕ) → IsTermInForm l (term.Var k)
   variable_in_form k = by_level (term.Var k) (Term-F.Var k) (out-var k) tt tt
-
-  pub truth_in_form : (b : Bool) → IsTermInForm l (term.Truth b)
-  truth_in_form b = by_level (term.Truth b) (Term-F.Truth b) (out-truth b) tt tt
 
   pub sum_in_form : (t : Term) (n : ℤ) → IsLayerInForm l (Term-F.Plus t n) → IsTermInForm l t → IsTermInForm l (term.Plus t n)
   sum_in_form t n level base = by_level (term.Plus t n) (Term-F.Plus t n) (out-plus t n) level base

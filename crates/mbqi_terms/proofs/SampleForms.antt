@@ -1,5 +1,5 @@
 -- The sample terms of the tests are in form over the sample lists.
-use Rattle.std.proofs.Common.{◌≡◌, ◌<◌, ℕ, zero, suc, ℤ, pos, negsuc, [], ◌∷◌, length, Some, Result, Ok, Err, IfOk, refl, sym, ap, subst, ◌∙◌, rules, arith}
+use Rattle.std.proofs.Common.{◌≡◌, ◌<◌, ℕ, ℤ, pos, negsuc, [], ◌∷◌, length, Some, Result, Ok, Err, IfOk, refl, sym, ap, subst, ◌∙◌, rules, arith}
 use Rattle.std.specs.Option.{IfSome, IsSome, option_map, option_and_then}
 use Rattle.std.proofs.lemmas.Int.{ints}
 use Rattle.std.proofs.lemmas.Option.{slice_get_within}
@@ -14,7 +14,6 @@ use Rattle.mbqi_terms.specs.declared.term.Symbol.{out-Symbol}
 use Rattle.mbqi_terms.specs.declared.term.Symbol.TheVariants as symbol
 use Rattle.mbqi_terms.specs.declared.term.Term.{Term, out-Term}
 use Rattle.mbqi_terms.specs.declared.term.Term.TheVariants as term
-use Rattle.mbqi_terms.specs.Distinct.{AreDistinct}
 use Rattle.mbqi_terms.specs.Form.{Suits, FitPlaces, IsTermInForm}
 use Rattle.mbqi_terms.specs.Lists.{array_sort, index_sort, element_sort, layer_sort, symbol_layer_sort}
 use Rattle.mbqi_terms.specs.Samples.{sample_lists}
@@ -24,24 +23,13 @@ use Rattle.mbqi_terms.specs.Tree.{IsBase, number_of, number_at}
 use Rattle.mbqi_terms.specs.declared.term_id.TermId.{TermId}
 use Rattle.mbqi_terms.proofs.InForm.{numeral_in_form, variable_in_form, sum_in_form, constant_in_form, call_in_form, read_in_form, default_in_form, suits_by}
 use Rattle.mbqi_terms.proofs.Trees.{length-trees}
-use Rattle.mbqi_terms.proofs.Levels.{out-num, out-plus, out-var, out-apply, out-declared, out-skolem, out-seed, out-far, out-diff}
-
-pub one_is_distinct : {X : Type 0} (x : X) → AreDistinct (x ∷ [])
-one_is_distinct x zero zero y e f = refl
-one_is_distinct x zero (suc j) y e f = cc
-one_is_distinct x (suc i) j y e f = cc
+use Rattle.mbqi_terms.proofs.Levels.{out-num, out-plus, out-var, out-apply, out-declared, out-skolem, out-diff}
 
 abbrev skolem : Term
 skolem = term.Apply (symbol.Skolem 4 1) []
 
 pub skolem_form : IsTermInForm sample_lists (term.Apply (symbol.Skolem 4 1) [])
 skolem_form = constant_in_form sample_lists (symbol.Skolem 4 1) (Symbol-F.Skolem 4 1) (out-skolem 4 1) tt tt
-
-pub seed_form : (s : ℕ) → IsTermInForm sample_lists (term.Apply (symbol.Seed s) [])
-seed_form s = constant_in_form sample_lists (symbol.Seed s) (Symbol-F.Seed s) (out-seed s) tt tt
-
-pub far_form : IsTermInForm sample_lists (term.Apply symbol.Far [])
-far_form = constant_in_form sample_lists symbol.Far Symbol-F.Far out-far tt tt
 
 pub call_form : (n : ℤ) → IsTermInForm sample_lists (term.Apply (symbol.Declared 0) (term.Num n ∷ []))
 call_form n =
@@ -121,7 +109,7 @@ stored s id t e = omega (arith, slice_get_within (trees_of s.lists s.nodes) id.0
 only_tree : (s : Store) (id : TermId) (t u : Term) → HasTree s id t → HasTree s id u → t ≡ u
 only_tree s id t u e f = cc
 
--- what a numeral's number has to meet to be shifted
+-- the numeral 4 of a store may be shifted
 pub numeral_suits : (s : Store) (id : TermId) (t : Term) → HasTree s id (term.Num (pos 4)) → HasTree s id t → Suits s.lists Int t
 numeral_suits s id t e f =
     suits_by s.lists Int t (Term-F.Num (pos 4)) (ap out-Term (only_tree s id t (term.Num (pos 4)) f e) ∙ out-num (pos 4)) refl
