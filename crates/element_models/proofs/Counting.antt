@@ -5,7 +5,10 @@ use Rattle.std.proofs.lemmas.List.Recursion.{is_count_by}
 use Rattle.mbqi_terms.specs.declared.script.Function.{Function}
 use Rattle.mbqi_terms.specs.declared.term.Term.{Term}
 use Rattle.ground_form.specs.Profile.{is_constant, constant, constants_from, constants_of}
-use Rattle.element_models.specs.Elements.{size_of}
+
+-- How many elements the universe has: one for each constant, and one more.
+abbrev pub size_of : List Function → ℕ
+size_of functions = count_by is_constant functions + 1
 
 abbrev pub constants_in : List Function → ℕ
 constants_in [] = 0

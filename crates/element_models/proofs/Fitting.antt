@@ -17,11 +17,11 @@ use Rattle.function_model.specs.declared.model.Table.{Table}
 use Rattle.ground_form.specs.Atoms.{IsOver}
 use Rattle.ground_form.specs.Profile.{the_sort, IsConstant, IsPredicate, IsElementary, is_constant, constants_of}
 use Rattle.ground_form.specs.declared.atoms.GroundAtom.{GroundAtom}
-use Rattle.element_models.specs.Elements.{size_of, knots_of, constant_table, predicate_table, table_for, next_element, tables_from}
+use Rattle.element_models.specs.Elements.{knots_of, constant_table, predicate_table, table_for, next_element, tables_from}
 use Rattle.element_models.specs.Filling.{IsRaised}
 use Rattle.element_models.specs.Rows.{rows_of}
 use Rattle.element_models.proofs.AtomRows.{all_rows}
-use Rattle.element_models.proofs.Counting.{constants_in, counted, length_constants}
+use Rattle.element_models.proofs.Counting.{size_of, constants_in, counted, length_constants}
 use Rattle.element_models.proofs.Knots.{have_knots, stand}
 
 -- Rising rows, each of which is a row of a table, may be all its rows.

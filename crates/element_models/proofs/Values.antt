@@ -21,11 +21,11 @@ use Rattle.function_model.specs.declared.model.Table.{Table}
 use Rattle.ground_form.specs.Atoms.{IsOver, atom_tree, atom_at}
 use Rattle.ground_form.specs.Profile.{is_constant, is_element, constants_of}
 use Rattle.ground_form.specs.declared.atoms.GroundAtom.{GroundAtom}
-use Rattle.element_models.specs.Elements.{size_of, knots_of, tables_from}
+use Rattle.element_models.specs.Elements.{knots_of, tables_from}
 use Rattle.element_models.specs.Filling.{IsRaised}
 use Rattle.element_models.specs.Rows.{element_of, rows_of}
 use Rattle.element_models.proofs.AtomRows.{found}
-use Rattle.element_models.proofs.Counting.{counted, length_constants}
+use Rattle.element_models.proofs.Counting.{size_of, counted, length_constants}
 use Rattle.element_models.proofs.Knots.{at_itself, at_only}
 use Rattle.element_models.proofs.Lookups.{table_of, raised_give, predicate_found, constant_found}
 

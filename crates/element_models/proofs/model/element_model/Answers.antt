@@ -10,10 +10,10 @@ use Rattle.function_model.specs.declared.model.Table.{Table}
 use Rattle.ground_form.specs.Atoms.{IsOver, atom_tree, atom_at}
 use Rattle.ground_form.specs.Profile.{is_element}
 use Rattle.ground_form.specs.declared.atoms.GroundAtom.{GroundAtom}
-use Rattle.element_models.specs.Elements.{size_of, tables_from}
+use Rattle.element_models.specs.Elements.{tables_from}
 use Rattle.element_models.specs.Filling.{NamesPredicate, IsRaised}
 use Rattle.element_models.specs.Rows.{rows_of}
-use Rattle.element_models.proofs.Counting.{size_is}
+use Rattle.element_models.proofs.Counting.{size_of, size_is}
 use Rattle.element_models.proofs.Filling.{tables_agree}
 use Rattle.element_models.proofs.Fitting.{model_fits}
 use Rattle.element_models.proofs.Values.{atom_truth}
