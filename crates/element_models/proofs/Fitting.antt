@@ -17,11 +17,11 @@ use Rattle.function_model.specs.declared.model.Table.{Table}
 use Rattle.ground_form.specs.Atoms.{IsOver}
 use Rattle.ground_form.specs.Profile.{the_sort, IsConstant, IsPredicate, IsElementary, is_constant, constants_of}
 use Rattle.ground_form.specs.declared.atoms.GroundAtom.{GroundAtom}
-use Rattle.element_models.specs.Elements.{size_of, knots_of, constant_table, predicate_table, table_for, next_element, tables_from}
+use Rattle.element_models.specs.Elements.{knots_of, constant_table, predicate_table, table_for, next_element, tables_from}
 use Rattle.element_models.specs.Filling.{IsRaised}
 use Rattle.element_models.specs.Rows.{rows_of}
 use Rattle.element_models.proofs.AtomRows.{all_rows}
-use Rattle.element_models.proofs.Counting.{constants_in, counted, length_constants}
+use Rattle.element_models.proofs.Counting.{size_of, constants_in, length_constants}
 use Rattle.element_models.proofs.Knots.{have_knots, stand}
 
 -- Rising rows, each of which is a row of a table, may be all its rows.
@@ -121,7 +121,7 @@ module _ (fit : RowsFit) where
       → FitFunctions (replicate 0 (size_of functions)) 0 fs raised in
       subst P (sym (named refl)) (nothing raised) to
   all_fit (sort ∷ []) rows functions raised few named each wanted to =
-      tables_fit rows 0 0 (size_of functions) functions raised (omega (arith, counted functions)) each
+      tables_fit rows 0 0 (size_of functions) functions raised (omega (arith, length_constants 0 functions)) each
       (λ k d h. let at : k ≡ 0 + k = omega arith in subst (λ n. WantedRows rows (size_of functions) n (get_or functions k d)) at (wanted k d h)) to
   all_fit (sort ∷ other ∷ sorts) rows functions raised few named each wanted to = absurd (omega arith)
 
@@ -138,7 +138,7 @@ wanted_rows functions atoms truths over k d h is =
     let many : length atom.args ≡ length (get_or functions k d).args = on.predicate.3 ∙ ap (λ (f : Function). length f.args) same in
     let below = recursion_from_All (λ id. id.0 < size_of functions) atom.args
     (All-weaker (λ id. id.0 < length (constants_of functions)) (λ id. id.0 < size_of functions)
-    (λ id h. omega (arith, h, length_constants 0 functions, counted functions)) atom.args on.args) in
+    (λ id h. omega (arith, h)) atom.args on.args) in
     (stand (size_of functions) (get_or functions k d).args atom.args many below, (tt, tt)))
 
 -- the model of an elementary script fits it

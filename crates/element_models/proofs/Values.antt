@@ -21,11 +21,11 @@ use Rattle.function_model.specs.declared.model.Table.{Table}
 use Rattle.ground_form.specs.Atoms.{IsOver, atom_tree, atom_at}
 use Rattle.ground_form.specs.Profile.{is_constant, is_element, constants_of}
 use Rattle.ground_form.specs.declared.atoms.GroundAtom.{GroundAtom}
-use Rattle.element_models.specs.Elements.{size_of, knots_of, tables_from}
+use Rattle.element_models.specs.Elements.{knots_of, tables_from}
 use Rattle.element_models.specs.Filling.{IsRaised}
 use Rattle.element_models.specs.Rows.{element_of, rows_of}
 use Rattle.element_models.proofs.AtomRows.{found}
-use Rattle.element_models.proofs.Counting.{counted, length_constants}
+use Rattle.element_models.proofs.Counting.{size_of}
 use Rattle.element_models.proofs.Knots.{at_itself, at_only}
 use Rattle.element_models.proofs.Lookups.{table_of, raised_give, predicate_found, constant_found}
 
@@ -71,7 +71,7 @@ module _ (sizes : List ℕ) (functions : List Function) (atoms : List GroundAtom
       let size = size_of functions in
       let below = recursion_from_All (λ id. id.0 < size) atom.args
       (All-weaker (λ id. id.0 < length (constants_of functions)) (λ id. id.0 < size)
-      (λ id h. omega (arith, h, length_constants 0 functions, counted functions)) atom.args is.args) in
+      (λ id h. omega (arith, h)) atom.args is.args) in
       let sorts = (get_or functions p function).args in
       let as_many : length atom.args ≡ length sorts = is.predicate.3 ∙ ap (λ (f : Function). length f.args) (sym read) in
       let number : 0 + p ≡ p = omega arith in

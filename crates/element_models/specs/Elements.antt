@@ -1,6 +1,6 @@
 -- The models of elementary scripts (this project's own): each constant is an element of its own, and one more element stands for
 -- what has no name.
-use Rattle.std.specs.Prelude.{ℕ, zero, suc, ◌+◌, false, List, [], ◌∷◌, map, count_by, if◌then◌else◌}
+use Rattle.std.specs.Prelude.{ℕ, zero, suc, ◌+◌, false, List, [], ◌∷◌, map, if◌then◌else◌}
 use Rattle.mbqi_values.specs.declared.value.Value.{Value}
 use Rattle.mbqi_values.specs.declared.value.Value.TheVariants as value
 use Rattle.mbqi_terms.specs.declared.script.Function.{Function}
@@ -9,10 +9,6 @@ use Rattle.function_model.specs.declared.model.Row.{Row}
 use Rattle.function_model.specs.declared.model.Table.{Table}
 use Rattle.function_model.specs.declared.model.TableName.TheVariants.{Declared}
 use Rattle.ground_form.specs.Profile.{is_constant}
-
--- How many elements the universe has: one for each constant, and one more.
-abbrev pub size_of : List Function → ℕ
-size_of functions = count_by is_constant functions + 1
 
 -- So many elements in order, from one on.
 abbrev pub elements_from : ℕ → ℕ → List Value

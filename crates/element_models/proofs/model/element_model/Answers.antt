@@ -1,4 +1,4 @@
-use Rattle.std.proofs.Common.{◌≡◌, ◌∙◌, ℕ, Bool, List, ap, sym, subst}
+use Rattle.std.proofs.Common.{◌≡◌, ◌∙◌, ◌+◌, length, ℕ, Bool, List, ap, sym, subst}
 use Rattle.std.specs.Prelude.{All, replicate}
 use Rattle.std.specs.List.{AllZip}
 use Rattle.mbqi_terms.specs.declared.script.Function.{Function}
@@ -10,10 +10,10 @@ use Rattle.function_model.specs.declared.model.Table.{Table}
 use Rattle.ground_form.specs.Atoms.{IsOver, atom_tree, atom_at}
 use Rattle.ground_form.specs.Profile.{is_element}
 use Rattle.ground_form.specs.declared.atoms.GroundAtom.{GroundAtom}
-use Rattle.element_models.specs.Elements.{size_of, tables_from}
+use Rattle.element_models.specs.Elements.{tables_from}
 use Rattle.element_models.specs.Filling.{NamesPredicate, IsRaised}
 use Rattle.element_models.specs.Rows.{rows_of}
-use Rattle.element_models.proofs.Counting.{size_is}
+use Rattle.element_models.proofs.Counting.{size_of}
 use Rattle.element_models.proofs.Filling.{tables_agree}
 use Rattle.element_models.proofs.Fitting.{model_fits}
 use Rattle.element_models.proofs.Values.{atom_truth}
@@ -50,7 +50,7 @@ returns-clause-fits c =
     let atoms = c.args.atoms.now in
     let truths = c.args.truths.now in
     let terms = c.requires.pool.terms in
-    let many = c.universe_size-size.ensures ∙ size_is script.functions c.args.pool.now.terms terms in
+    let many = c.universe_size-size.ensures ∙ ap (λ (ts : List Term). length ts + 1) terms in
     let each = shown atoms truths script.functions c.as_slice-functions.result.now c.universe_size-size.result c.in_ok-tables.tables.items
     c.raise_tables.new.tables.items c.from_vec.result c.in_ok-tables.ensures c.as_slice-functions.ensures many c.raise_tables.ensures c.from_vec.ensures in
     let sizes = c.in_ok-sizes.ensures ∙ (λ i. replicate (c.len.ensures i) (many i)) in
@@ -63,7 +63,7 @@ returns-clause-truth c i h =
     let atoms = c.args.atoms.now in
     let truths = c.args.truths.now in
     let terms = c.requires.pool.terms in
-    let many = c.universe_size-size.ensures ∙ size_is functions c.args.pool.now.terms terms in
+    let many = c.universe_size-size.ensures ∙ ap (λ (ts : List Term). length ts + 1) terms in
     let each = shown atoms truths functions c.as_slice-functions.result.now c.universe_size-size.result c.in_ok-tables.tables.items
     c.raise_tables.new.tables.items c.from_vec.result c.in_ok-tables.ensures c.as_slice-functions.ensures many c.raise_tables.ensures c.from_vec.ensures in
     let over = subst (λ (ts : List Term). All (IsOver functions ts) atoms) terms c.requires.over in
