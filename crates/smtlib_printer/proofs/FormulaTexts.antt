@@ -1,5 +1,5 @@
 -- The texts of formulas by their kinds, as the pieces that are written one behind the other.
-use Rattle.std.proofs.Common.{◌≡◌, ℕ, List, ◌∷◌, ◌++◌, map, codes, sym, ap, ◌∙◌}
+use Rattle.std.proofs.Common.{◌≡◌, ℕ, List, ◌++◌, map, codes, sym, ap, ◌∙◌}
 use Rattle.mbqi_terms.specs.declared.formula.Formula.{Formula}
 use Rattle.mbqi_terms.specs.declared.formula.Formula.TheFolds.{fold-roll-Formula}
 use Rattle.mbqi_terms.specs.declared.formula.Formula.TheOpen.{Formula-F}

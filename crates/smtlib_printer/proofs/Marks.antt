@@ -1,5 +1,5 @@
 -- The first number that isn't taken, as a loop comes to it.
-use Rattle.std.proofs.Common.{◌≡◌, ◌<◌, ◌≤◌, ℕ, zero, suc, ◌+◌, ◌-◌, Bool, true, false, refl, ap, sym, ◌∙◌, arith, cond, if◌then◌else◌}
+use Rattle.std.proofs.Common.{◌≡◌, ◌<◌, ◌≤◌, ℕ, zero, suc, ◌+◌, ◌-◌, Bool, true, false, refl, ap, ◌∙◌, arith}
 use Rattle.smtlib_printer.specs.Names.{first_free}
 
 pub first_free_here : (is_taken : ℕ → Bool) (left at : ℕ) → is_taken at ≡ false → first_free is_taken left at ≡ at

@@ -1,5 +1,5 @@
 -- Lists of a few parts, as the pieces that are written one behind the other.
-use Rattle.std.proofs.Common.{◌≡◌, ℕ, Bool, true, false, ◌&&◌, if◌then◌else◌, Result, Ok, Err, is_ok, OnOk, List, [], ◌∷◌, ◌++◌, map, codes, refl, sym, ap, ◌∙◌, append_assoc, append-nil}
+use Rattle.std.proofs.Common.{◌≡◌, ℕ, true, false, ◌&&◌, if◌then◌else◌, Result, Ok, Err, is_ok, OnOk, List, [], ◌∷◌, ◌++◌, map, codes, refl, sym, ap, ◌∙◌, append_assoc, append-nil}
 use Rattle.smtlib_printer.specs.Text.{applied_text, is_nothing, list_text, spaced, spaced_rest}
 
 one : (open_ word blank a close : List ℕ) → open_ ++ ((word ++ ((blank ++ a) ++ [])) ++ close) ≡ open_ ++ (word ++ (blank ++ (a ++ close)))

@@ -17,11 +17,10 @@ mod terms;
 mod tests;
 
 pub use formulas::write_formula_with;
-pub use names::{question_marks, write_name};
-pub use terms::{write_array_with, write_term_with, write_terms_with};
-
 use mbqi_terms::{ArrayTerm, Formula, Script, Term};
+pub use names::{question_marks, write_name};
 use std::alloc::AllocError;
+pub use terms::{write_array_with, write_term_with, write_terms_with};
 
 /// Appends the text of a term of the script. Numbers of sorts and functions that the script lacks print as the
 /// empty name. The one error is want of memory, after which a front of the text may stand there.
@@ -32,11 +31,7 @@ pub fn write_term(script: &Script, term: &Term, into: &mut Vec<u8>) -> Result<()
 }
 
 /// Appends the text of an array term of the script, as [`write_term`] does.
-pub fn write_array(
-    script: &Script,
-    array: &ArrayTerm,
-    into: &mut Vec<u8>,
-) -> Result<(), AllocError>
+pub fn write_array(script: &Script, array: &ArrayTerm, into: &mut Vec<u8>) -> Result<(), AllocError>
     ensures { OnOk result (into.new.items ≡ into.old.items ++ array_text script.now array.now) }
 {
     write_array_with(script, question_marks(script), array, into)

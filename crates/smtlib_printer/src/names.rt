@@ -123,7 +123,9 @@ fn longest(names: &[Text]) -> usize
 fn longest_function(functions: &[Function]) -> usize
     ensures { result ≡ longest_function functions.now }
 {
-    functions.iter().fold(0, |length, function| length.max(function.name.len()))
+    functions
+        .iter()
+        .fold(0, |length, function| length.max(function.name.len()))
 }
 
 /// Whether a declared name begins with so many question marks and then a digit.
@@ -144,7 +146,9 @@ fn is_sort_begun(names: &[Text], count: usize) -> bool
 fn is_function_begun(functions: &[Function], count: usize) -> bool
     ensures { result ≡ list_any (λ (f : Function). begins_with count f.name) functions.now }
 {
-    functions.iter().any(|function| begins_with(function.name.as_slice(), count))
+    functions
+        .iter()
+        .any(|function| begins_with(function.name.as_slice(), count))
 }
 
 /// Whether the name begins with so many question marks and then a digit. Only where the digit stands there are the

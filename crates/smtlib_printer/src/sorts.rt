@@ -22,6 +22,7 @@ pub(crate) fn write_number(number: i128, into: &mut Vec<u8>) -> Result<(), Alloc
     into.extend_from_slice(b")")
 }
 
+/// Appends `true` or `false`.
 pub(crate) fn write_truth(truth: bool, into: &mut Vec<u8>) -> Result<(), AllocError>
     ensures { OnOk result (into.new.items ≡ into.old.items ++ truth_text truth) }
 {
@@ -42,11 +43,8 @@ fn write_plain(script: &Script, sort: Plain, into: &mut Vec<u8>) -> Result<(), A
     }
 }
 
-pub(crate) fn write_sort(
-    script: &Script,
-    sort: Sort,
-    into: &mut Vec<u8>,
-) -> Result<(), AllocError>
+/// Appends a sort: an array sort with those of its indices and its elements.
+pub(crate) fn write_sort(script: &Script, sort: Sort, into: &mut Vec<u8>) -> Result<(), AllocError>
     ensures { OnOk result (into.new.items ≡ into.old.items ++ sort_text script.now sort) }
 {
     match sort {
@@ -64,11 +62,7 @@ pub(crate) fn write_sort(
 }
 
 /// Appends the function or connective of a pointwise map.
-pub(crate) fn write_map_op(
-    script: &Script,
-    op: MapOp,
-    into: &mut Vec<u8>,
-) -> Result<(), AllocError>
+pub(crate) fn write_map_op(script: &Script, op: MapOp, into: &mut Vec<u8>) -> Result<(), AllocError>
     ensures { OnOk result (into.new.items ≡ into.old.items ++ map_text script.now op) }
 {
     match op {

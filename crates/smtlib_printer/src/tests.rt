@@ -1,7 +1,5 @@
 use crate::{write_array, write_formula, write_name, write_term};
-use mbqi_terms::{
-    ArrayTerm, Binder, Formula, Function, Plain, Script, Sort, Symbol, Term,
-};
+use mbqi_terms::{ArrayTerm, Binder, Formula, Function, Plain, Script, Sort, Symbol, Term};
 use mbqi_values::Sequence;
 use sqlite_items::{Boxed, Items};
 use std::alloc::{AllocError, Global};
@@ -125,7 +123,10 @@ fn index_where_two_arrays_differ(rt: HostRuntime) -> Result<(), AllocError> {
     let differ = Term::Apply(symbol, Items::new(alloc));
     let mut into = Vec::new(alloc);
     write_term(&script(alloc, b"x", b"two words")?, &differ, &mut into)?;
-    assert_eq!(rt; into.as_slice(), b"(@diff |two words| (store x 3 (- 7)))".as_slice());
+    assert_eq!(rt;
+        into.as_slice(),
+        b"(@diff |two words| (store x 3 (- 7)))".as_slice()
+    );
     Ok(())
 }
 
@@ -136,6 +137,9 @@ fn array_of_one_value(rt: HostRuntime) -> Result<(), AllocError> {
     let array = ArrayTerm::Const(sort, Boxed::new(alloc, Term::Truth(true))?);
     let mut into = Vec::new(alloc);
     write_array(&script(alloc, b"x", b"f")?, &array, &mut into)?;
-    assert_eq!(rt; into.as_slice(), b"((as const (Array S Bool)) true)".as_slice());
+    assert_eq!(rt;
+        into.as_slice(),
+        b"((as const (Array S Bool)) true)".as_slice()
+    );
     Ok(())
 }

@@ -23,4 +23,4 @@ returns c =
     (three_pieces c.args.into.now.items before c.write_instances.new.into.items
     (codes "unsat\n(refutation 1\n") (instances_text c.args.script.now (marks_of c.args.script.now) c.args.lines.now) (codes ")\n")
     c.in_ok-extend_from_slice.ensures.items
-    (c.in_ok-write_instances.ensures ∙ ap (λ marks. before ++ instances_text c.args.script.now marks c.args.lines.now) c.question_marks.ensures))
+    (c.in_ok-write_instances.ensures ∙ ap (λ marks. before ++ instances_text c.args.script.now marks c.args.lines.now) c.question_marks.ensures.value))
