@@ -5,7 +5,7 @@ ghost use Rattle.smtlib_printer.specs.Text.{array_text_with, binders_text, formu
 
 use crate::sorts::{write_binders, write_truth};
 use crate::terms::{write_array_with, write_term_with};
-use mbqi_terms::{ArrayTerm, Formula, Script, Term};
+use mbqi_terms::{ArrayTerm, Binder, Formula, Script, Term};
 use std::alloc::AllocError;
 
 /// Appends the text of a formula, where variables have so many question marks.
@@ -31,17 +31,9 @@ pub fn write_formula_with(
             into.extend_from_slice(b")")
         }
         #[tactic(auto, using(crate::proofs::FormulaTexts::all_text))]
-        Formula::All(fs) => {
-            into.extend_from_slice(b"(and")?;
-            write_more_formulas(script, marks, fs.as_slice(), into)?;
-            into.extend_from_slice(b")")
-        }
+        Formula::All(fs) => write_joined(script, marks, b"and", fs.as_slice(), into),
         #[tactic(auto, using(crate::proofs::FormulaTexts::any_text))]
-        Formula::Any(fs) => {
-            into.extend_from_slice(b"(or")?;
-            write_more_formulas(script, marks, fs.as_slice(), into)?;
-            into.extend_from_slice(b")")
-        }
+        Formula::Any(fs) => write_joined(script, marks, b"or", fs.as_slice(), into),
         #[tactic(auto, using(crate::proofs::FormulaTexts::iff_text))]
         Formula::Iff(f, g) => {
             into.extend_from_slice(b"(= ")?;
@@ -62,21 +54,51 @@ pub fn write_formula_with(
         }
         #[tactic(auto, using(crate::proofs::FormulaTexts::forall_text))]
         Formula::Forall(binders, f) => {
-            into.extend_from_slice(b"(forall ")?;
-            write_binders(script, marks, binders.as_slice(), into)?;
-            into.extend_from_slice(b" ")?;
-            write_formula_with(script, marks, f.get(), into)?;
-            into.extend_from_slice(b")")
+            write_quantified(script, marks, b"forall", binders.as_slice(), f.get(), into)
         }
         #[tactic(auto, using(crate::proofs::FormulaTexts::exists_text))]
         Formula::Exists(binders, f) => {
-            into.extend_from_slice(b"(exists ")?;
-            write_binders(script, marks, binders.as_slice(), into)?;
-            into.extend_from_slice(b" ")?;
-            write_formula_with(script, marks, f.get(), into)?;
-            into.extend_from_slice(b")")
+            write_quantified(script, marks, b"exists", binders.as_slice(), f.get(), into)
         }
     }
+}
+
+/// Appends a quantifier with its variables and its body.
+#[cycle(write_formula)]
+fn write_quantified(
+    script: &Script,
+    marks: usize,
+    quantifier: &[u8],
+    binders: &[Binder],
+    f: &Formula,
+    into: &mut Vec<u8>,
+) -> Result<(), AllocError>
+    ensures { OnOk result (into.new.items ≡ into.old.items ++ list_text (quantifier.now ∷ binders_text script.now marks binders.now ∷ formula_text_with script.now marks f.now ∷ [])) }
+{
+    into.extend_from_slice(b"(")?;
+    into.extend_from_slice(quantifier)?;
+    into.extend_from_slice(b" ")?;
+    write_binders(script, marks, binders, into)?;
+    into.extend_from_slice(b" ")?;
+    write_formula_with(script, marks, f, into)?;
+    into.extend_from_slice(b")")
+}
+
+/// Appends a connective with formulas.
+#[cycle(write_formula)]
+fn write_joined(
+    script: &Script,
+    marks: usize,
+    connective: &[u8],
+    formulas: &[Formula],
+    into: &mut Vec<u8>,
+) -> Result<(), AllocError>
+    ensures { OnOk result (into.new.items ≡ into.old.items ++ list_text (connective.now ∷ map (formula_text_with script.now marks) formulas.now)) }
+{
+    into.extend_from_slice(b"(")?;
+    into.extend_from_slice(connective)?;
+    write_more_formulas(script, marks, formulas, into)?;
+    into.extend_from_slice(b")")
 }
 
 /// Appends formulas, each behind a blank.

@@ -6,18 +6,6 @@ use Rattle.smtlib_printer.proofs.Pieces.{five_pieces, of_part, seven_pieces, wri
 use Rattle.smtlib_printer.proofs.FormulaTexts.{all_text, any_text, choose_text, exists_text, forall_text, iff_text}
 use Rattle.smtlib_printer.proofs.formulas.+write_formula.Goals as goal
 
-pub write_formula_with-returns-in_ok-write_more_formulas-in-All :
-    goal.write_formula_with-returns-in_ok-write_more_formulas-in-All
-write_formula_with-returns-in_ok-write_more_formulas-in-All t c =
-    let text = all_text c.args.script.now c.args.marks c.in-All.fs in
-    grind (arith, common_steps)
-
-pub write_formula_with-returns-in_ok-write_more_formulas-in-Any :
-    goal.write_formula_with-returns-in_ok-write_more_formulas-in-Any
-write_formula_with-returns-in_ok-write_more_formulas-in-Any t c =
-    let text = any_text c.args.script.now c.args.marks c.in-Any.fs in
-    grind (arith, common_steps)
-
 pub write_formula_with-returns-in_ok-write_formula_with-in-Iff-2 :
     goal.write_formula_with-returns-in_ok-write_formula_with-in-Iff-2
 write_formula_with-returns-in_ok-write_formula_with-in-Iff-2 t c =
@@ -45,29 +33,3 @@ write_formula_with-returns-in_ok-write_formula_with-in-Choose-3 t c =
     c.in_ok-extend_from_slice-in-Choose-3.ensures.items
     (of_part (formula_text_with c.args.script.now c.args.marks) c.get-in-Choose-3.result.now c.in-Choose.g c.extend_from_slice-in-Choose-3.new.self.items c.write_formula_with-in-Choose-3.new.into.items c.in_ok-write_formula_with-in-Choose-3.ensures c.get-in-Choose-3.ensures)
     (ap (formula_text_with c.args.script.now c.args.marks) c.in-Choose.is ∙ choose_text c.args.script.now c.args.marks c.in-Choose.c c.in-Choose.f c.in-Choose.g))
-
-pub write_formula_with-returns-in_ok-write_formula_with-in-Forall :
-    goal.write_formula_with-returns-in_ok-write_formula_with-in-Forall
-write_formula_with-returns-in_ok-write_formula_with-in-Forall t c =
-    written c.extend_from_slice-in-Forall-3.result _ _ _ _ c.extend_from_slice-in-Forall-3.ensures.items
-    (five_pieces c.args.into.now.items
-    c.extend_from_slice-in-Forall.new.self.items c.write_binders.new.into.items c.extend_from_slice-in-Forall-2.new.self.items c.write_formula_with-in-Forall.new.into.items
-    (codes "(forall ") (binders_text c.args.script.now c.args.marks c.in-Forall.binders) (codes " ") (formula_text_with c.args.script.now c.args.marks c.in-Forall.f) (codes ")") _
-    c.in_ok-extend_from_slice-in-Forall.ensures.items
-    (of_part (binders_text c.args.script.now c.args.marks) c.as_slice-in-Forall.result.now c.in-Forall.binders c.extend_from_slice-in-Forall.new.self.items c.write_binders.new.into.items c.in_ok-write_binders-in-Forall.ensures c.as_slice-in-Forall.ensures)
-    c.in_ok-extend_from_slice-in-Forall-2.ensures.items
-    (of_part (formula_text_with c.args.script.now c.args.marks) c.get-in-Forall.result.now c.in-Forall.f c.extend_from_slice-in-Forall-2.new.self.items c.write_formula_with-in-Forall.new.into.items c.in_ok-write_formula_with-in-Forall.ensures c.get-in-Forall.ensures)
-    (ap (formula_text_with c.args.script.now c.args.marks) c.in-Forall.is ∙ forall_text c.args.script.now c.args.marks c.in-Forall.binders c.in-Forall.f))
-
-pub write_formula_with-returns-in_ok-write_formula_with-in-Exists :
-    goal.write_formula_with-returns-in_ok-write_formula_with-in-Exists
-write_formula_with-returns-in_ok-write_formula_with-in-Exists t c =
-    written c.extend_from_slice-in-Exists-3.result _ _ _ _ c.extend_from_slice-in-Exists-3.ensures.items
-    (five_pieces c.args.into.now.items
-    c.extend_from_slice-in-Exists.new.self.items c.write_binders-in-Exists.new.into.items c.extend_from_slice-in-Exists-2.new.self.items c.write_formula_with-in-Exists.new.into.items
-    (codes "(exists ") (binders_text c.args.script.now c.args.marks c.in-Exists.binders) (codes " ") (formula_text_with c.args.script.now c.args.marks c.in-Exists.f) (codes ")") _
-    c.in_ok-extend_from_slice-in-Exists.ensures.items
-    (of_part (binders_text c.args.script.now c.args.marks) c.as_slice-in-Exists.result.now c.in-Exists.binders c.extend_from_slice-in-Exists.new.self.items c.write_binders-in-Exists.new.into.items c.in_ok-write_binders-in-Exists.ensures c.as_slice-in-Exists.ensures)
-    c.in_ok-extend_from_slice-in-Exists-2.ensures.items
-    (of_part (formula_text_with c.args.script.now c.args.marks) c.get-in-Exists.result.now c.in-Exists.f c.extend_from_slice-in-Exists-2.new.self.items c.write_formula_with-in-Exists.new.into.items c.in_ok-write_formula_with-in-Exists.ensures c.get-in-Exists.ensures)
-    (ap (formula_text_with c.args.script.now c.args.marks) c.in-Exists.is ∙ exists_text c.args.script.now c.args.marks c.in-Exists.binders c.in-Exists.f))
