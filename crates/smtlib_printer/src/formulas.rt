@@ -5,7 +5,7 @@ ghost use Rattle.smtlib_printer.specs.Text.{array_text_with, binders_text, formu
 
 use crate::sorts::{write_binders, write_truth};
 use crate::terms::{write_array_with, write_term_with};
-use mbqi_terms::{ArrayTerm, Binder, Formula, Script, Term};
+use mbqi_terms::{ArrayTerm, Binders, Formula, Script, Term};
 use std::alloc::AllocError;
 
 /// Appends the text of a formula, where variables have so many question marks.
@@ -34,7 +34,6 @@ pub fn write_formula_with(
         Formula::All(fs) => write_joined(script, marks, b"and", fs.as_slice(), into),
         #[tactic(auto, using(crate::proofs::FormulaTexts::any_text))]
         Formula::Any(fs) => write_joined(script, marks, b"or", fs.as_slice(), into),
-        #[tactic(auto, using(crate::proofs::FormulaTexts::iff_text))]
         Formula::Iff(f, g) => {
             into.extend_from_slice(b"(= ")?;
             write_formula_with(script, marks, f.get(), into)?;
@@ -42,7 +41,6 @@ pub fn write_formula_with(
             write_formula_with(script, marks, g.get(), into)?;
             into.extend_from_slice(b")")
         }
-        #[tactic(auto, using(crate::proofs::FormulaTexts::choose_text))]
         Formula::Choose(c, f, g) => {
             into.extend_from_slice(b"(ite ")?;
             write_formula_with(script, marks, c.get(), into)?;
@@ -53,32 +51,28 @@ pub fn write_formula_with(
             into.extend_from_slice(b")")
         }
         #[tactic(auto, using(crate::proofs::FormulaTexts::forall_text))]
-        Formula::Forall(binders, f) => {
-            write_quantified(script, marks, b"forall", binders.as_slice(), f.get(), into)
-        }
+        Formula::Forall(bound, f) => write_bound(script, marks, b"forall", bound, f.get(), into),
         #[tactic(auto, using(crate::proofs::FormulaTexts::exists_text))]
-        Formula::Exists(binders, f) => {
-            write_quantified(script, marks, b"exists", binders.as_slice(), f.get(), into)
-        }
+        Formula::Exists(bound, f) => write_bound(script, marks, b"exists", bound, f.get(), into),
     }
 }
 
 /// Appends a quantifier with its variables and its body.
 #[cycle(write_formula)]
-fn write_quantified(
+fn write_bound(
     script: &Script,
     marks: usize,
     quantifier: &[u8],
-    binders: &[Binder],
+    bound: &Binders,
     f: &Formula,
     into: &mut Vec<u8>,
 ) -> Result<(), AllocError>
-    ensures { OnOk result (into.new.items ≡ into.old.items ++ list_text (quantifier.now ∷ binders_text script.now marks binders.now ∷ formula_text_with script.now marks f.now ∷ [])) }
+    ensures { OnOk result (into.new.items ≡ into.old.items ++ list_text (quantifier.now ∷ binders_text script.now marks bound.now ∷ formula_text_with script.now marks f.now ∷ [])) }
 {
     into.extend_from_slice(b"(")?;
     into.extend_from_slice(quantifier)?;
     into.extend_from_slice(b" ")?;
-    write_binders(script, marks, binders, into)?;
+    write_binders(script, marks, bound.as_slice(), into)?;
     into.extend_from_slice(b" ")?;
     write_formula_with(script, marks, f, into)?;
     into.extend_from_slice(b")")
