@@ -1,4 +1,5 @@
 pub mod Deepest
+pub mod Singletons
 pub mod Rows
 pub mod Scopes
 pub mod SortTrees

@@ -46,3 +46,11 @@ pub struct Variable {
     pub name: Text,
     pub binder: Binder,
 }
+
+/// How many names of each kind there are.
+#[derive(Clone, Copy, Debug, PartialEq, Eq)]
+pub struct NamesMark {
+    pub sorts: usize,
+    pub functions: usize,
+    pub macros: usize,
+}
