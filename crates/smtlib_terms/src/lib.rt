@@ -5,6 +5,7 @@
 
 #![tactic(auto)]
 
+pub mod binders;
 pub mod declaring;
 pub mod meaning;
 pub mod names;
