@@ -1,3 +1,4 @@
+pub mod BindersRead
 pub mod Deepest
 pub mod Singletons
 pub mod Rows

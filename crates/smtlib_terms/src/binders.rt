@@ -1,19 +1,20 @@
 //! Binders and bindings, as trees spell them.
 
-ghost use Rattle.std.specs.Prelude.{◌≡◌};
+ghost use Rattle.std.specs.Prelude.{◌≡◌, ◌+◌, [], IfOk};
 ghost use Rattle.std.specs.List.{list_all};
 ghost use Rattle.smtlib_terms.specs.Answers.{Answers};
-ghost use Rattle.smtlib_terms.specs.Reading.{are_binders, bindable, binder_name, binder_sort, is_binder, is_some_symbol, quantifiable, text_of, trees_in};
+ghost use Rattle.smtlib_terms.specs.Reading.{are_binders, bindable, binder_name, binder_sort, binders_of, is_binder, is_some_symbol, quantifiable, text_of, trees_in};
+ghost use Rattle.smtlib_terms.specs.Declaring.{parameters_of};
 ghost use Rattle.smtlib_terms.specs.Binders.{parameter_read, variable_read};
 
 use crate::declaring::is_one_of;
-use crate::names::{Parameter, Variable};
+use crate::names::{Parameter, Parameters, Variable, Variables};
 use crate::sorts::{refused, sort_of_tree};
 use crate::word::is_reserved;
-use mbqi_terms::{Binder, Sort};
-use mbqi_values::{FaultKind, ReadError, Sequence, Text};
+use mbqi_terms::{Binder, Sort, copy_text};
+use mbqi_values::{FaultKind, ReadError, Sequence, Text, Texts};
 use sexpr_text::Sexpr;
-use std::alloc::Global;
+use std::alloc::{AllocError, Global};
 
 /// The trees in a list; none in another tree.
 #[tactic(auto, using(crate::proofs::TermTrees::term_laws))]
@@ -136,7 +137,7 @@ fn quantifiable(sort: Sort) -> Result<Sort, ReadError>
 
 /// A variable of a quantifier, behind others of these names.
 #[tactic(auto, unfolding(crate::specs::Binders::variable_read))]
-pub fn variable(
+fn variable(
     alloc: Global,
     sorts: &[Text],
     tree: &Sexpr,
@@ -155,7 +156,7 @@ pub fn variable(
 
 /// A parameter of a macro, behind others of these names.
 #[tactic(auto, unfolding(crate::specs::Binders::parameter_read))]
-pub fn parameter(
+fn parameter(
     alloc: Global,
     sorts: &[Text],
     tree: &Sexpr,
@@ -166,4 +167,49 @@ pub fn parameter(
     let sort = binder_sort(sorts, tree)?;
     let name = bindable(alloc, binder_name(tree), seen)?;
     Ok(Parameter { name, sort })
+}
+
+/// The parameters of a macro, each in turn.
+#[tactic(auto, using(std::proofs::lemmas::Grind::common_steps, crate::proofs::BindersRead::parameter_laws))]
+pub fn parameters(alloc: Global, sorts: &[Text], trees: &[Sexpr]) -> Result<Parameters, ReadError>
+    ensures { Answers result (parameters_of trees.now sorts.now []) }
+{
+    let mut parameters = Sequence::new(alloc);
+    let mut seen: Texts = Sequence::new(alloc);
+    for tree in trees {
+        let next = parameter(alloc, sorts, tree, seen.as_slice())?;
+        seen.push(copy_text(alloc, &next.name)?)?;
+        parameters.push(next)?;
+    }
+    Ok(parameters)
+}
+
+/// The place behind a place. As many as 2^64 variables have no room in memory.
+fn place_behind(place: usize) -> Result<usize, AllocError>
+    ensures { IfOk result (λ n. n ≡ place + 1) }
+{
+    place.checked_add(1).ok_or(AllocError)
+}
+
+/// The variables of a quantifier's binders, with places from `place` on, each in turn.
+#[tactic(auto, using(std::proofs::lemmas::Grind::common_steps, crate::proofs::BindersRead::variable_laws))]
+pub fn variables(
+    alloc: Global,
+    sorts: &[Text],
+    trees: &[Sexpr],
+    place: usize,
+) -> Result<Variables, ReadError>
+    ensures { Answers result (binders_of trees.now sorts.now place []) }
+{
+    let mut variables = Sequence::new(alloc);
+    let mut seen: Texts = Sequence::new(alloc);
+    let mut place = place;
+    for tree in trees {
+        let next = variable(alloc, sorts, tree, place, seen.as_slice())?;
+        seen.push(copy_text(alloc, &next.name)?)?;
+        variables.push(next)?;
+        let following = place_behind(place)?;
+        place = following;
+    }
+    Ok(variables)
 }

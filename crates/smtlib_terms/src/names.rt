@@ -47,6 +47,9 @@ pub struct Variable {
     pub binder: Binder,
 }
 
+/// The variables of a quantifier, in order.
+pub type Variables = Sequence<Variable>;
+
 /// How many names of each kind there are.
 #[derive(Clone, Copy, Debug, PartialEq, Eq)]
 pub struct NamesMark {
