@@ -1,5 +1,5 @@
 -- Worked rows: the definitions compute the meanings and the first faults of trees.
-use Rattle.std.proofs.Common.{◌≡◌, ℕ, List, [], ◌∷◌, Ok, Err, refl, pos, negsuc, true, false}
+use Rattle.std.proofs.Common.{◌≡◌, ℕ, List, [], ◌∷◌, Ok, Err, pos, negsuc, true}
 use Rattle.std.specs.Prelude.{codes}
 use Rattle.mbqi_values.specs.declared.fault.FaultKind.TheVariants as kind
 use Rattle.mbqi_terms.specs.declared.formula.Formula.{Formula}
@@ -19,7 +19,6 @@ use Rattle.mbqi_terms.specs.declared.term.Term.{Term}
 use Rattle.mbqi_terms.specs.declared.term.Term.TheVariants.{Num, Plus, Var, Apply, Read, Default}
 use Rattle.sexpr_text.specs.declared.tree.Sexpr.{Sexpr}
 use Rattle.sexpr_text.specs.declared.tree.Sexpr.TheVariants as tree
-use Rattle.smtlib_terms.specs.declared.names.Macro.{Macro}
 use Rattle.smtlib_terms.specs.Declaring.{Declarations, formula_read, macro_defined}
 use Rattle.smtlib_terms.specs.Reading.{side, trees_in}
 use Rattle.smtlib_terms.specs.Words.{word_of, is_reserved, is_reserved_word}

@@ -1,5 +1,5 @@
 -- What a tree means, by the variant of the tree; a list by the list of its trees.
-use Rattle.std.proofs.Common.{◌≡◌, ℕ, List, [], ◌∷◌, map, Result, Ok, Err, refl, ap}
+use Rattle.std.proofs.Common.{◌≡◌, ℕ, List, [], ◌∷◌, map, Err, refl, ap}
 use Rattle.mbqi_values.specs.declared.fault.FaultKind.TheVariants.{BadForm, Unsupported}
 use Rattle.sexpr_text.specs.declared.tree.Sexpr.{Sexpr}
 use Rattle.sexpr_text.specs.declared.tree.Sexpr.TheVariants as tree
@@ -8,7 +8,7 @@ use denote.Hole.Carrier.{hidden}
 use Rattle.smtlib_terms.specs.declared.names.Binding.{Binding}
 use Rattle.smtlib_terms.specs.Names.{Signature}
 use Rattle.smtlib_terms.specs.Operators.{meant}
-use Rattle.smtlib_terms.specs.Reading.{Part, Reading, inner, inner_of, list_read, numeral, part_of, parts_of, readings, readings_of, side, symbol, trees_in, trees_of}
+use Rattle.smtlib_terms.specs.Reading.{Part, Reading, inner, list_read, numeral, part_of, parts_of, readings, side, symbol, trees_in}
 
 -- the trees of a list
 pub trees_in-List : (items : List Sexpr) → trees_in (tree.List items) ≡ items

@@ -18,3 +18,8 @@ Answers (Err error) meant = IsFault error meant
 abbrev pub IfRefused : ReadError → (FaultKind → Type 0) → Type 0
 IfRefused (Refused refusal) P = P refusal.kind
 IfRefused Memory P = Unit {0}
+
+-- What a declaration leaves: the names that are meant, or the fault and the names as before.
+abbrev pub Declares : {A N : Type 0} → Result A ReadError → N → N → Result N FaultKind → Type 0
+Declares (Ok a) before after meant = meant ≡ Ok after
+Declares (Err error) before after meant = IsFault error meant × (after ≡ before)

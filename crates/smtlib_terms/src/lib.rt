@@ -5,6 +5,8 @@
 
 #![tactic(auto)]
 
+pub mod binders;
+pub mod declaring;
 pub mod meaning;
 pub mod names;
 pub mod scope;

@@ -46,3 +46,14 @@ pub struct Variable {
     pub name: Text,
     pub binder: Binder,
 }
+
+/// The variables of a quantifier, in order.
+pub type Variables = Sequence<Variable>;
+
+/// How many names of each kind there are.
+#[derive(Clone, Copy, Debug, PartialEq, Eq)]
+pub struct NamesMark {
+    pub sorts: usize,
+    pub functions: usize,
+    pub macros: usize,
+}

@@ -1,13 +1,13 @@
 //! The names in scope.
 
-ghost use Rattle.std.specs.Prelude.{◌≡◌, ℕ, ◌-◌, ◌≤◌, ◌++◌, length, drop, OnOk};
+ghost use Rattle.std.specs.Prelude.{◌≡◌, ℕ, ◌-◌, ◌≤◌, ◌++◌, [], length, drop, OnOk};
 ghost use Rattle.std.specs.Option.{option_copied};
 ghost use Rattle.smtlib_terms.specs.Names.{bound_to};
 
 use crate::meaning::Bound;
 use crate::names::Binding;
 use sqlite_items::Items;
-use std::alloc::AllocError;
+use std::alloc::{AllocError, Global};
 use std::marker::Model;
 
 /// The bindings in scope, which contracts see with the innermost first.
@@ -31,6 +31,15 @@ impl Model for Scope {
 }
 
 impl Scope {
+    /// No bindings.
+    pub fn new(alloc: Global) -> Scope
+        ensures { result ≡ [] }
+    {
+        Scope {
+            bindings: Vec::new(alloc),
+        }
+    }
+
     /// How many bindings are in scope.
     pub fn len(&self) -> usize
         ensures { result ≡ length self.now }

@@ -1,4 +1,3 @@
-use Rattle.std.proofs.Common.{arith}
 use Rattle.std.proofs.lemmas.List.{length-reverse}
 use Rattle.smtlib_terms.proofs.Scopes.{drop-reverse}
 use Rattle.smtlib_terms.proofs.scope.Scope.leave.Goals as goal
