@@ -1,0 +1,95 @@
+#!/usr/bin/env python3
+"""Times `solve` on ground scripts of several shapes and sizes, and z3 beside it where it is there.
+
+    bench/ground.py [COMMAND..]
+
+COMMAND is run with the file's name behind it, and `./mbqi solve` where none is given. A line tells the seconds of one run at
+each size. Declarations are looked up one by one and each decision looks over all clauses, so the time of a chain grows with the
+square of its length at least; pigeons take exponential time. The scripts are made in a folder of their own, which is deleted
+at the end. It is no part of the gate.
+"""
+import itertools
+import os
+import shutil
+import subprocess
+import sys
+import tempfile
+import time
+
+SECONDS = 60
+
+
+def script(constants, predicates, assertions):
+    """A script of one sort."""
+    lines = ["(declare-sort S 0)"]
+    lines += [f"(declare-const {name} S)" for name in constants]
+    lines += [f"(declare-fun {name} (S) Bool)" for name in predicates]
+    lines += [f"(assert {assertion})" for assertion in assertions]
+    return "\n".join(lines + ["(check-sat)", ""])
+
+
+def units(count):
+    names = [f"c{i}" for i in range(count)]
+    return script(names, ["p"], [f"(p {name})" for name in names])
+
+
+def chain(count):
+    names = [f"c{i}" for i in range(count)]
+    links = [f"(or (not (p {a})) (p {b}))" for a, b in itertools.pairwise(names)]
+    return script(names, ["p"], ["(p c0)"] + links)
+
+
+def broken_chain(count):
+    names = [f"c{i}" for i in range(count)]
+    links = [f"(or (not (p {a})) (p {b}))" for a, b in itertools.pairwise(names)]
+    return script(names, ["p"], ["(p c0)"] + links + [f"(not (p {names[-1]}))"])
+
+
+def pigeons(count):
+    names = [f"pigeon{i}" for i in range(count)]
+    holes = [f"hole{i}" for i in range(count - 1)]
+    somewhere = ["(or " + " ".join(f"({hole} {name})" for hole in holes) + ")" for name in names]
+    apart = [f"(or (not ({hole} {a})) (not ({hole} {b})))" for hole in holes for a, b in itertools.combinations(names, 2)]
+    return script(names, holes, somewhere + apart)
+
+
+SHAPES = [
+    ("units", units, [100, 200, 400, 800]),
+    ("chain", chain, [100, 200, 400, 800]),
+    ("broken chain", broken_chain, [100, 200, 400, 800]),
+    ("pigeons", pigeons, [3, 4, 5, 6]),
+]
+
+
+def seconds_of(command):
+    """The time of one run, or none where it takes too long or ends otherwise than with an answer."""
+    start = time.perf_counter()
+    try:
+        done = subprocess.run(command, stdout=subprocess.DEVNULL, stderr=subprocess.PIPE, check=False, timeout=SECONDS)
+    except subprocess.TimeoutExpired:
+        return None
+    return time.perf_counter() - start if done.returncode in (0, 10, 20) else None
+
+
+def row(name, command, folder, make, sizes):
+    """The line of a command on a shape."""
+    cells = []
+    for size in sizes:
+        path = os.path.join(folder, "script.smt2")
+        with open(path, "w", encoding="ascii") as file:
+            file.write(make(size))
+        taken = seconds_of(command + [path])
+        cells.append(f"{size:>6}: " + ("   none" if taken is None else f"{taken:7.3f}"))
+    print(f"{name:<22}" + "  ".join(cells), flush=True)
+
+
+def main():
+    command = sys.argv[1:] or ["./mbqi", "solve"]
+    with tempfile.TemporaryDirectory() as folder:
+        for name, make, sizes in SHAPES:
+            row(name, command, folder, make, sizes)
+            if shutil.which("z3"):
+                row(f"{name}, z3", ["z3"], folder, make, sizes)
+
+
+main()
