@@ -1,5 +1,5 @@
 -- The measures of each kind of formula by those of its parts.
-use Rattle.std.proofs.Common.{◌≡◌, ℕ, ◌+◌, Bool, false, List, length, map, max, sum, refl, rules}
+use Rattle.std.proofs.Common.{◌≡◌, ◌+◌, Bool, false, List, length, map, max, sum, refl, rules}
 use Rattle.mbqi_terms.specs.declared.formula.Formula.{Formula}
 use Rattle.mbqi_terms.specs.declared.formula.Formula as formulas
 use Rattle.mbqi_terms.specs.declared.formula.Formula.TheBlock.{hidden-the_row-Formula-0}
