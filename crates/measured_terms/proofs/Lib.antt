@@ -1,0 +1,5 @@
+pub mod ArrayLaws
+pub mod FormulaLaws
+pub mod ListLaws
+pub mod SymbolLaws
+pub mod TermLaws
