@@ -42,15 +42,6 @@ pub put_atom : (at : ℕ → Term) (functions : List Function) (t : Term) → Is
 put_atom at functions t is =
     ap (put_into at) is.3 ∙ (put_apply at is.0 (map constant is.2) ∙ (ap (λ ts. term.Apply (symbol.Declared is.0) ts) (put_constants at is.2) ∙ sym is.3))
 
--- what an instance of an atom, of a negation and of a disjunction is
-instance_atom : (i : Instantiation) (b : Bool) (t : Term) (g : Formula) → InstanceAt i true (formula.Atom t) g ≡ (g ≡ formula.Atom (put_into i.at t))
-unfolding InstanceAt
-instance_atom i b t g = refl
-
-instance_not : (i : Instantiation) (t : Term) (g : Formula) → InstanceAt i true (formula.Not (formula.Atom t)) g ≡ (g ≡ formula.Not (formula.Atom (put_into i.at t)))
-unfolding InstanceAt hidden-the_row-Formula-0 hidden hidden-the_row-Formula-1
-instance_not i t g = refl
-
 -- one instance of each of a list of formulas
 abbrev EachOf : Instantiation → List Formula → List Formula → Type 0
 EachOf i [] [] = Unit {0}
