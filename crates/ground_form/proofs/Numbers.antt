@@ -1,10 +1,9 @@
 -- Numbers of terms, atoms and literals, by places.
-use Rattle.std.proofs.Common.{◌≡◌, ℕ, zero, suc, ◌+◌, ◌<◌, inl, inr, List, [], ◌∷◌, ◌++◌, length, map, take, Some, slice_get, refl, sym, ap, subst, ◌∙◌, arith}
+use Rattle.std.proofs.Common.{◌≡◌, ℕ, zero, suc, ◌+◌, ◌<◌, inl, inr, List, [], ◌∷◌, ◌++◌, length, map, take, Some, slice_get, refl, sym, ap, subst, ◌∙◌, arith, length-append}
 use Rattle.std.specs.List.{All, AllZip}
-use Rattle.std.proofs.lemmas.List.{length-map}
 use Rattle.std.proofs.lemmas.List.Elements.{All-push}
 use Rattle.std.proofs.lemmas.Option.{slice_get_within, get_or_from_slice_get, slice_get_read, slice_get-map}
-use Rattle.std.specs.Prelude.{slice_index_or}
+use Rattle.std.specs.Prelude.{slice_index_or, ◌-◌}
 use Rattle.std.specs.Option.{option_map}
 use Rattle.mbqi_terms.specs.declared.instance.InstanceLine.{InstanceLine}
 use Rattle.mbqi_values.specs.declared.lit.Lit.{Lit}
@@ -23,7 +22,7 @@ use Rattle.mbqi_terms.proofs.Trees.{get_seam, get_take, take-push}
 use Rattle.mbqi_terms.proofs.Zips.{zip_length, zip_push}
 use Rattle.ground_form.specs.Atoms.{IsOver, IsPool, formulas_in}
 use Rattle.ground_form.specs.Numbering.{Extends, IsNumbered, IsNumberOf, IsAtomOf, IsLitOf, IsClauseOf}
-use Rattle.ground_form.specs.Profile.{IsAtom, NamesConstant, constant}
+use Rattle.ground_form.specs.Profile.{IsAtom, IsGround, constants_of, seed}
 use Rattle.ground_form.specs.declared.atoms.GroundAtom.{GroundAtom}
 use Rattle.ground_form.specs.declared.pool.Pool.{Pool}
 
@@ -41,24 +40,28 @@ pub next_zip : {X Y : Type 0} (R : X → Y → Type 0) (xs : List X) (ys : List 
     → AllZip R xs (take i ys) → R x y → AllZip R (xs ++ x ∷ []) (take (i + 1) ys)
 next_zip R xs ys i x y e zip r = subst (AllZip R (xs ++ x ∷ [])) (sym (take-push ys i y e)) (zip_push R xs (take i ys) x y zip r)
 
--- a constant among the functions is numbered by their pool
-pub numbered : (functions : List Function) (pool : Pool) → IsPool functions pool → (c : ℕ) → NamesConstant functions c → IsNumbered pool (constant c)
-numbered functions pool is c named =
-    let within = slice_get_within functions c named.0 named.1 in
-    record { number = c; is = refl; within = omega (arith, within, is.numbers); place = is.places c named }
+-- a constant among the functions is numbered by their pool, and so is the seed
+numbered : (functions : List Function) (pool : Pool) → IsPool functions pool → (t : Term) → IsGround functions t → IsNumbered pool t
+numbered functions pool is t (inl named) =
+    let within = slice_get_within functions named.0 named.2.0 named.2.1 in
+    inl (record { number = named.0; is = named.1; within = omega (arith, within, is.numbers); place = is.places named.0 named.2 })
+numbered functions pool is t (inr last) =
+    let some : length pool.terms ≡ length (constants_of functions) + 1 = ap length is.terms ∙ length-append (constants_of functions) (seed ∷ []) in
+    let at : length pool.terms - 1 ≡ length (constants_of functions) = omega (arith, some) in
+    inr (record {
+      is = last;
+      some = omega (arith, some);
+      place = ap (λ n. slice_get pool.terms n) at ∙ (ap (λ ts. slice_get ts (length (constants_of functions))) is.terms ∙ get_seam (constants_of functions) seed []);
+    })
 
-pub all_numbered : (functions : List Function) (pool : Pool) → IsPool functions pool → (constants : List ℕ) → All (NamesConstant functions) constants
-    → All (IsNumbered pool) (map constant constants)
-all_numbered functions pool is [] named k d h = absurd (omega arith)
-all_numbered functions pool is (c ∷ constants) named zero d h = numbered functions pool is c (named zero c (omega arith))
-all_numbered functions pool is (c ∷ constants) named (suc k) d h =
-    all_numbered functions pool is constants (λ j n l. named (suc j) n (omega arith)) k d (omega arith)
+all_numbered : (functions : List Function) (pool : Pool) → IsPool functions pool → (ts : List Term) → All (IsGround functions) ts → All (IsNumbered pool) ts
+all_numbered functions pool is ts ground i d h = numbered functions pool is (slice_index_or ts i d) (ground i d h)
 
 -- the arguments of an atom are numbered
-pub args_numbered : (functions : List Function) (pool : Pool) (t : Term) (p : ℕ) (args : List Term) → IsPool functions pool → IsAtom functions t
-    → t ≡ term.Apply (symbol.Declared p) args → All (IsNumbered pool) args
+pub args_numbered : (functions : List Function) (pool : Pool) (t : Term) (p : ℕ) (args : List Term) → IsPool functions pool
+    → IsAtom functions (IsGround functions) t → t ≡ term.Apply (symbol.Declared p) args → All (IsNumbered pool) args
 args_numbered functions pool t p args is atom e =
-    let same = same_declared p atom.0 args (map constant atom.2) (sym e ∙ atom.3) in
+    let same = same_declared p atom.0 args atom.2 (sym e ∙ atom.3) in
     subst (All (IsNumbered pool)) (sym same.1) (all_numbered functions pool is atom.2 atom.7)
 
 module _ (terms : List Term) where
@@ -78,12 +81,12 @@ module _ (terms : List Term) where
   zip_within (id ∷ ids) (t ∷ ts) zip (suc k) d h = zip_within ids ts zip.1 k d (omega arith)
 
   -- an atom of the profile by the numbers of its arguments
-  pub is_over : (functions : List Function) (t : Term) (p : ℕ) (args : List Term) (ids : List TermId) → IsAtom functions t
+  pub is_over : (functions : List Function) (t : Term) (p : ℕ) (args : List Term) (ids : List TermId) → IsAtom functions (IsGround functions) t
       → t ≡ term.Apply (symbol.Declared p) args → AllZip (IsNumberOf terms) ids args → IsOver functions terms (record { predicate = p; args = ids })
   is_over functions t p args ids atom e zip =
-      let same = same_declared p atom.0 args (map constant atom.2) (sym e ∙ atom.3) in
+      let same = same_declared p atom.0 args atom.2 (sym e ∙ atom.3) in
       record {
-        predicate = (atom.1, ap (slice_get functions) same.0 ∙ atom.4, atom.5, zip_length (IsNumberOf terms) ids args zip ∙ (ap length same.1 ∙ (length-map atom.2 constant ∙ atom.6)));
+        predicate = (atom.1, ap (slice_get functions) same.0 ∙ atom.4, atom.5, zip_length (IsNumberOf terms) ids args zip ∙ (ap length same.1 ∙ atom.6));
         args = zip_within ids args zip;
       }
 

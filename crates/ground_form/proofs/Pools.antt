@@ -7,9 +7,15 @@ use Rattle.mbqi_terms.specs.declared.script.Function.{Function}
 use Rattle.mbqi_terms.specs.declared.term.Term.{Term}
 use Rattle.mbqi_terms.proofs.Trees.{get_front, get_seam}
 use Rattle.ground_form.specs.Atoms.{IsPool}
-use Rattle.ground_form.specs.PoolSteps.{pool_with, pool_with_all}
-use Rattle.ground_form.specs.Profile.{NamesConstant, IsConstant, constant, constants_of, constants_from, is_constant, is_element}
+use Rattle.ground_form.specs.PoolSteps.{pool_with, pool_with_all, with_seed}
+use Rattle.ground_form.specs.Profile.{NamesConstant, IsConstant, constant, constants_of, constants_from, is_constant, is_element, seed}
 use Rattle.ground_form.specs.declared.pool.Pool.{Pool}
+
+-- a pool before its seed
+record IsConstantPool (functions : List Function) (pool : Pool) : Type 0 where
+  terms : pool.terms ≡ constants_of functions
+  numbers : length pool.numbers ≡ length functions
+  places : (c : ℕ) → NamesConstant functions c → slice_get pool.terms (slice_index pool.numbers c) ≡ Some (constant c)
 
 get-append : {X : Type 0} (xs ys : List X) (i : ℕ) (x : X) → slice_get xs i ≡ Some x → slice_get (xs ++ ys) i ≡ Some x
 get-append xs ys i x e = let within = slice_get_within xs i x e in get_front xs ys i within ∙ e
@@ -35,7 +41,7 @@ constants-push f (first ∷ functions) function =
     by true e = ap (λ terms. constant f ∷ terms) e
     by false e = e
 
-module _ (before : List Function) (pool : Pool) (is : IsPool before pool) (function : Function) where
+module _ (before : List Function) (pool : Pool) (is : IsConstantPool before pool) (function : Function) where
   -- a constant among the functions before, or the next one
   names : (c : ℕ) → NamesConstant (before ++ function ∷ []) c → (NamesConstant before c × (c < length pool.numbers)) ⊎ ((c ≡ length pool.numbers) × IsConstant function)
   names c named =
@@ -73,7 +79,7 @@ module _ (before : List Function) (pool : Pool) (is : IsPool before pool) (funct
       number : length pool.numbers ≡ 0 + length before
       number = omega (arith, is.numbers)
 
-  pool-with : IsPool (before ++ function ∷ []) (pool_with pool function)
+  pool-with : IsConstantPool (before ++ function ∷ []) (pool_with pool function)
   pool-with = by (is_constant function) refl
     where
       place : (c : ℕ) → c ≡ length pool.numbers
@@ -84,7 +90,7 @@ module _ (before : List Function) (pool : Pool) (is : IsPool before pool) (funct
           ∙ (get_seam pool.terms (constant (length pool.numbers)) [] ∙ ap (λ n. Some (constant n)) (sym e)))
 
       by : (b : Bool) → is_constant function ≡ b
-          → IsPool (before ++ function ∷ [])
+          → IsConstantPool (before ++ function ∷ [])
           (if b then record { terms = pool.terms ++ constant (length pool.numbers) ∷ []; numbers = pool.numbers ++ length pool.terms ∷ [] }
           else record { terms = pool.terms; numbers = pool.numbers ++ 0 ∷ [] })
       by true p = record {
@@ -105,17 +111,24 @@ module _ (before : List Function) (pool : Pool) (is : IsPool before pool) (funct
         ];
       }
 
-pools : (before functions : List Function) (pool : Pool) → IsPool before pool → IsPool (before ++ functions) (pool_with_all pool functions)
-pools before [] pool is = subst (λ fs. IsPool fs pool) (sym (append-nil before)) is
+pools : (before functions : List Function) (pool : Pool) → IsConstantPool before pool → IsConstantPool (before ++ functions) (pool_with_all pool functions)
+pools before [] pool is = subst (λ fs. IsConstantPool fs pool) (sym (append-nil before)) is
 pools before (function ∷ functions) pool is =
     let rest = pools (before ++ function ∷ []) functions (pool_with pool function) (pool-with before pool is function) in
-    subst (λ fs. IsPool fs (pool_with_all pool (function ∷ functions))) (append_assoc before (function ∷ []) functions) rest
+    subst (λ fs. IsConstantPool fs (pool_with_all pool (function ∷ functions))) (append_assoc before (function ∷ []) functions) rest
 
-none : IsPool [] (record { terms = []; numbers = [] })
+none : IsConstantPool [] (record { terms = []; numbers = [] })
 none = record { terms = refl; numbers = refl; places = λ c named. absurd (none_there c named.0 named.1) }
   where
     none_there : (c : ℕ) (function : Function) → slice_get [] c ≡ Some function → ⊥
     none_there c function e = cc
 
-pub pool_is : (functions : List Function) → IsPool functions (pool_with_all (record { terms = []; numbers = [] }) functions)
-pool_is functions = pools [] functions (record { terms = []; numbers = [] }) none
+pub pool_is : (functions : List Function) → IsPool functions (with_seed (pool_with_all (record { terms = []; numbers = [] }) functions))
+pool_is functions =
+    let pool = pool_with_all (record { terms = []; numbers = [] }) functions in
+    let is = pools [] functions (record { terms = []; numbers = [] }) none in
+    record {
+      terms = ap (λ ts. ts ++ seed ∷ []) is.terms;
+      numbers = is.numbers;
+      places = λ c named. get-append pool.terms (seed ∷ []) (slice_index pool.numbers c) (constant c) (is.places c named);
+    }

@@ -39,11 +39,11 @@ same_any : (fs gs : List Formula) → formula.Any fs ≡ formula.Any gs → fs �
 same_any fs gs e = let layers : Formula-F.Any fs ≡ Formula-F.Any gs = sym (out-any fs) ∙ (ap out-Formula e ∙ out-any gs) in cc
 
 -- the parts of a disjunction of the profile
-pub any_literals : (functions : List Function) (f : Formula) (fs : List Formula) → IsClause functions f → f ≡ formula.Any fs → All (IsLiteral functions) fs
-any_literals functions f fs clause e =
+pub any_literals : (functions : List Function) (IsArg : Term → Type 0) (f : Formula) (fs : List Formula) → IsClause functions IsArg f → f ≡ formula.Any fs → All (IsLiteral functions IsArg) fs
+any_literals functions IsArg f fs clause e =
     elim clause [
       | inl one ↦ elim one.2 [ inl is ↦ absurd (atom_no_any one.0 fs (sym is ∙ e)) | inr is ↦ absurd (not_no_any (formula.Atom one.0) fs (sym is ∙ e)) ]
-      | inr any ↦ subst (All (IsLiteral functions)) (same_any any.0 fs (sym any.1 ∙ e)) any.2
+      | inr any ↦ subst (All (IsLiteral functions IsArg)) (same_any any.0 fs (sym any.1 ∙ e)) any.2
     ]
 
 module _ (m : Meanings) where

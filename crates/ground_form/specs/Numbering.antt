@@ -1,15 +1,18 @@
 -- What numbers of terms and atoms stand for (this project's own).
-use Rattle.std.specs.Prelude.{◌≡◌, ℕ, ◌<◌, ◌⊎◌, List, [], ◌∷◌, length, take, Some, slice_get, slice_index, if◌then◌else◌}
+use Rattle.std.specs.Prelude.{◌≡◌, ℕ, ◌-◌, ◌<◌, ◌≤◌, ◌⊎◌, List, [], ◌∷◌, length, take, Some, slice_get, slice_index, if◌then◌else◌}
 use Rattle.std.specs.List.{AllZip}
 use Rattle.mbqi_values.specs.declared.lit.Lit.{Lit}
 use Rattle.mbqi_terms.specs.declared.formula.Formula.{Formula}
 use Rattle.mbqi_terms.specs.declared.formula.Formula.TheVariants as formula
+use Rattle.mbqi_terms.specs.declared.term.ArrayTerm.{ArrayTerm}
+use Rattle.mbqi_terms.specs.declared.term.ArrayTerm.TheOpen.{Symbol-F, Term-F}
+use Rattle.mbqi_terms.specs.declared.term.Symbol.{Symbol, out-Symbol}
 use Rattle.mbqi_terms.specs.declared.term.Symbol.TheVariants as symbol
-use Rattle.mbqi_terms.specs.declared.term.Term.{Term}
+use Rattle.mbqi_terms.specs.declared.term.Term.{Term, out-Term}
 use Rattle.mbqi_terms.specs.declared.term.Term.TheVariants as term
 use Rattle.mbqi_terms.specs.declared.term_id.TermId.{TermId}
 use Rattle.ground_form.specs.Atoms.{atom_tree}
-use Rattle.ground_form.specs.Profile.{constant}
+use Rattle.ground_form.specs.Profile.{constant, seed}
 use Rattle.ground_form.specs.declared.atoms.GroundAtom.{GroundAtom}
 use Rattle.ground_form.specs.declared.pool.Pool.{Pool}
 
@@ -24,11 +27,20 @@ pub record IsDeclared (t : Term) : Type 0 where
   pub is : t ≡ term.Apply (symbol.Declared number) args
 
 -- The term is a constant to which the pool gives the number of its place.
-pub record IsNumbered (pool : Pool) (t : Term) : Type 0 where
+pub record IsNumberedConstant (pool : Pool) (t : Term) : Type 0 where
   pub number : ℕ
   pub is : t ≡ constant number
   pub within : number < length pool.numbers
   pub place : slice_get pool.terms (slice_index pool.numbers number) ≡ Some (constant number)
+
+-- The term is the seed, with which the pool ends.
+pub record IsLastSeed (pool : Pool) (t : Term) : Type 0 where
+  pub is : t ≡ seed
+  pub some : 1 ≤ length pool.terms
+  pub place : slice_get pool.terms (length pool.terms - 1) ≡ Some seed
+
+abbrev pub IsNumbered : Pool → Term → Type 0
+IsNumbered pool t = IsNumberedConstant pool t ⊎ IsLastSeed pool t
 
 -- The term stands at the number among the terms.
 abbrev pub IsNumberOf : List Term → TermId → Term → Type 0
@@ -50,3 +62,15 @@ pub record IsLitOf (terms : List Term) (atoms : List GroundAtom) (lit : Lit) (f 
 abbrev pub IsClauseOf : List Term → List GroundAtom → List Lit → Formula → Type 0
 IsClauseOf terms atoms lits f =
     AllZip (IsLitOf terms atoms) lits (f ∷ []) ⊎ ((literals : List Formula) × (f ≡ formula.Any literals) × AllZip (IsLitOf terms atoms) lits literals)
+
+-- The number of a ground term in the pool: a constant's is kept for its function, and the seed comes last.
+abbrev pub number_of_symbol : Pool → Symbol-F ArrayTerm Symbol Term → ℕ
+number_of_symbol pool (Symbol-F.Declared c) = slice_index pool.numbers c
+number_of_symbol pool other = length pool.terms - 1
+
+abbrev pub number_layer : Pool → Term-F ArrayTerm Symbol Term → ℕ
+number_layer pool (Term-F.Apply symbol args) = number_of_symbol pool (out-Symbol symbol)
+number_layer pool other = length pool.terms - 1
+
+abbrev pub number_in : Pool → Term → ℕ
+number_in pool t = number_layer pool (out-Term t)

@@ -1,7 +1,7 @@
 -- A pool function by function (this project's own).
 use Rattle.std.specs.Prelude.{List, [], ◌∷◌, ◌++◌, length, fold, if◌then◌else◌}
 use Rattle.mbqi_terms.specs.declared.script.Function.{Function}
-use Rattle.ground_form.specs.Profile.{is_constant, constant}
+use Rattle.ground_form.specs.Profile.{is_constant, constant, seed}
 use Rattle.ground_form.specs.declared.pool.Pool.{Pool}
 
 -- The pool of the functions before, with the next one.
@@ -13,3 +13,7 @@ pool_with pool function =
 
 abbrev pub pool_with_all : Pool → List Function → Pool
 pool_with_all pool functions = fold pool_with pool functions
+
+-- A pool of the constants with the seed behind them.
+abbrev pub with_seed : Pool → Pool
+with_seed pool = record { terms = pool.terms ++ seed ∷ []; numbers = pool.numbers }

@@ -2,6 +2,7 @@
 
 ghost use Rattle.std.specs.Prelude.{◌≡◌, [], length, IfOk, OnErr};
 ghost use Rattle.mbqi_terms.specs.Distinct.{Puts, AreDistinct};
+ghost use Rattle.ground_form.specs.Atoms.{truth_in};
 
 use indexmap::IndexSet;
 use mbqi_terms::TermIds;
@@ -63,5 +64,16 @@ impl AtomTable {
     {
         let (place, _) = self.atoms.insert_full(atom)?;
         Ok(place)
+    }
+
+    /// The truth of the atom, where each atom of the table has a truth, in order: false where it isn't there.
+    pub fn truth(&self, truths: &[bool], atom: &GroundAtom) -> bool
+        requires { length truths.now ≡ length self.now }
+        ensures { result ≡ truth_in self.now truths.now atom.now }
+    {
+        match self.atoms.get_index_of(atom) {
+            Some(place) => truths[place],
+            None => false,
+        }
     }
 }

@@ -8,12 +8,12 @@ ghost use Rattle.mbqi_terms.specs.declared.term.Symbol.TheVariants as symbol;
 ghost use Rattle.mbqi_terms.specs.declared.term.Term.TheVariants as term;
 ghost use Rattle.ground_form.specs.Atoms.{truths_by, formulas_in, IsOver, IsPool};
 ghost use Rattle.ground_form.specs.Numbering.{Extends, IsDeclared, IsNumbered, IsNumberOf, IsAtomOf, IsLitOf, IsClauseOf};
-ghost use Rattle.ground_form.specs.Profile.{IsClause, IsLiteral, IsAtom};
+ghost use Rattle.ground_form.specs.Profile.{IsClause, IsLiteral, IsAtom, IsGround};
 
 use crate::atoms::{AtomTable, GroundAtom};
 use crate::pool::Pool;
 use clause_search::{LitLists, Lits};
-use mbqi_terms::{Formula, Function, InstanceLine, Symbol, Term, TermId, TermIds};
+use mbqi_terms::{Formula, Function, InstanceLine, Symbol, Term, TermIds};
 use mbqi_values::Lit;
 use std::alloc::{AllocError, Global};
 
@@ -28,7 +28,7 @@ pub fn clauses_of(
     lines: &[InstanceLine],
 ) -> Result<LitLists, AllocError>
     requires pool { IsPool functions.now pool.now }
-    requires clauses { All (IsClause functions.now) (formulas_in lines.now) }
+    requires clauses { All (IsClause functions.now (IsGround functions.now)) (formulas_in lines.now) }
     requires over { All (IsOver functions.now pool.now.terms) table.old }
     ensures below { IfOk result (AreBelow (length table.new)) }
     ensures truth { IfOk result (λ clauses. (m : Meanings) →
@@ -53,7 +53,7 @@ fn clause_of(
     formula: &Formula,
 ) -> Result<Lits, AllocError>
     requires pool { IsPool functions.now pool.now }
-    requires clause { IsClause functions.now formula.now }
+    requires clause { IsClause functions.now (IsGround functions.now) formula.now }
     requires over { All (IsOver functions.now pool.now.terms) table.old }
     ensures clause { IfOk result (λ lits. IsClauseOf pool.now.terms table.new lits formula.now) }
     ensures over { All (IsOver functions.now pool.now.terms) table.new }
@@ -77,7 +77,7 @@ fn lits_of(
     literals: &[Formula],
 ) -> Result<Lits, AllocError>
     requires pool { IsPool functions.now pool.now }
-    requires literals { All (IsLiteral functions.now) literals.now }
+    requires literals { All (IsLiteral functions.now (IsGround functions.now)) literals.now }
     requires over { All (IsOver functions.now pool.now.terms) table.old }
     ensures lits { IfOk result (λ lits. AllZip (IsLitOf pool.now.terms table.new) lits literals.now) }
     ensures over { All (IsOver functions.now pool.now.terms) table.new }
@@ -100,7 +100,7 @@ fn literal_of(
     literal: &Formula,
 ) -> Result<Lit, AllocError>
     requires pool { IsPool functions.now pool.now }
-    requires literal { IsLiteral functions.now literal.now }
+    requires literal { IsLiteral functions.now (IsGround functions.now) literal.now }
     requires over { All (IsOver functions.now pool.now.terms) table.old }
     ensures lit { IfOk result (λ lit. IsLitOf pool.now.terms table.new lit literal.now) }
     ensures over { All (IsOver functions.now pool.now.terms) table.new }
@@ -131,7 +131,7 @@ fn atom_of(
     t: &Term,
 ) -> Result<usize, AllocError>
     requires pool { IsPool functions.now pool.now }
-    requires atom { IsAtom functions.now t.now }
+    requires atom { IsAtom functions.now (IsGround functions.now) t.now }
     requires over { All (IsOver functions.now pool.now.terms) table.old }
     ensures atom { IfOk result (λ atom. IsAtomOf pool.now.terms table.new atom t.now) }
     ensures over { All (IsOver functions.now pool.now.terms) table.new }
@@ -142,31 +142,20 @@ fn atom_of(
     table.number(GroundAtom { predicate, args })
 }
 
-// The numbers of constants in the pool.
-fn numbers_of(alloc: Global, pool: &Pool, constants: &[Term]) -> Result<TermIds, AllocError>
-    requires { All (IsNumbered pool.now) constants.now }
-    ensures { IfOk result (λ ids. AllZip (IsNumberOf pool.now.terms) ids constants.now) }
+// The numbers of ground terms in the pool.
+fn numbers_of(alloc: Global, pool: &Pool, terms: &[Term]) -> Result<TermIds, AllocError>
+    requires { All (IsNumbered pool.now) terms.now }
+    ensures { IfOk result (λ ids. AllZip (IsNumberOf pool.now.terms) ids terms.now) }
 {
     let mut ids = TermIds::new(alloc);
-    for constant in constants {
-        ids.push(number_of(pool, constant))?;
+    for term in terms {
+        ids.push(pool.number_of(term))?;
     }
     Ok(ids)
 }
 
-fn number_of(pool: &Pool, constant: &Term) -> TermId
-    requires { IsNumbered pool.now constant.now }
-    ensures { IsNumberOf pool.now.terms result constant.now }
-{
-    let (number, _) = declared(constant);
-    let Some(place) = pool.numbers.get(number) else {
-        unreachable!()
-    };
-    TermId(*place)
-}
-
-// The number of the declared function that a term applies, and its arguments.
-fn declared(t: &Term) -> (usize, &[Term])
+/// The number of the declared function that a term applies, and its arguments.
+pub fn declared(t: &Term) -> (usize, &[Term])
     requires { IsDeclared t.now }
     ensures { t.now ≡ term.Apply (symbol.Declared result.0) result.1.now }
 {

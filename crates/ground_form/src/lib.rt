@@ -10,7 +10,7 @@ pub mod clauses;
 pub mod pool;
 
 pub use atoms::{AtomTable, GroundAtom};
-pub use clauses::clauses_of;
+pub use clauses::{clauses_of, declared};
 pub use pool::{Pool, pool_of};
 
 #[cfg(test)]

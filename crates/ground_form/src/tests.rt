@@ -4,7 +4,7 @@ ghost use Rattle.std.specs.Prelude.{◌≡◌, length, map, slice_get, Some, All
 ghost use Rattle.std.specs.List.{AllByRecursion};
 ghost use Rattle.mbqi_terms.specs.declared.script.Function.{Function};
 ghost use Rattle.ground_form.specs.Atoms.{formulas_in};
-ghost use Rattle.ground_form.specs.Profile.{IsClause, IsConstant, IsLiteral, IsPredicate, NamesConstant, constant, the_sort};
+ghost use Rattle.ground_form.specs.Profile.{IsClause, IsConstant, IsGround, IsLiteral, IsPredicate, NamesConstant, the_sort};
 
 use super::*;
 use mbqi_terms::{
@@ -55,8 +55,10 @@ fn signature(alloc: Global) -> Result<Functions, AllocError>
     Ok(functions)
 }
 
-fn terms(alloc: Global, constants: &[usize]) -> Result<Terms, AllocError>
-    ensures { IfOk result (λ terms. terms ≡ map constant constants.now) }
+fn terms(alloc: Global, functions: &[Function], constants: &[usize]) -> Result<Terms, AllocError>
+    requires { All (NamesConstant functions.now) constants.now }
+    ensures ground { IfOk result (All (IsGround functions.now)) }
+    ensures length { IfOk result (λ terms. length terms ≡ length constants.now) }
 {
     let mut terms = Terms::new(alloc);
     for number in constants {
@@ -76,9 +78,12 @@ fn literal(
     requires predicate { (function : Function) × (slice_get functions.now number ≡ Some function)
         × IsPredicate function × (length constants.now ≡ length function.args) }
     requires constants { All (NamesConstant functions.now) constants.now }
-    ensures { IfOk result (IsLiteral functions.now) }
+    ensures { IfOk result (IsLiteral functions.now (IsGround functions.now)) }
 {
-    let atom = Formula::Atom(Term::Apply(Symbol::Declared(number), terms(alloc, constants)?));
+    let atom = Formula::Atom(Term::Apply(
+        Symbol::Declared(number),
+        terms(alloc, functions, constants)?,
+    ));
     if yes {
         return Ok(atom);
     }
@@ -91,7 +96,7 @@ fn disjunction(alloc: Global, functions: &[Function]) -> Result<Formula, AllocEr
     requires second { NamesConstant functions.now 1 }
     requires unary { (function : Function) × (slice_get functions.now 2 ≡ Some function)
         × IsPredicate function × (length function.args ≡ 1) }
-    ensures { IfOk result (IsClause functions.now) }
+    ensures { IfOk result (IsClause functions.now (IsGround functions.now)) }
 {
     let mut literals = Formulas::new(alloc);
     literals.push(literal(alloc, functions, 2, &[1], true)?)?;
@@ -117,7 +122,7 @@ fn lines(alloc: Global, functions: &[Function]) -> Result<InstanceLines, AllocEr
         × IsPredicate function × (length function.args ≡ 1) }
     requires binary { (function : Function) × (slice_get functions.now 3 ≡ Some function)
         × IsPredicate function × (length function.args ≡ 2) }
-    ensures { IfOk result (λ lines. All (IsClause functions.now) (formulas_in lines)) }
+    ensures { IfOk result (λ lines. All (IsClause functions.now (IsGround functions.now)) (formulas_in lines)) }
 {
     let mut lines = InstanceLines::new(alloc);
     lines.push(line(alloc, literal(alloc, functions, 2, &[0], true)?))?;

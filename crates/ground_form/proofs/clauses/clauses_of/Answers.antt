@@ -8,7 +8,7 @@ use Rattle.std.specs.List.{AllZip}
 use Rattle.mbqi_terms.specs.declared.instance.InstanceLine.{InstanceLine}
 use Rattle.ground_form.specs.Atoms.{formulas_in}
 use Rattle.ground_form.specs.Numbering.{IsClauseOf}
-use Rattle.ground_form.specs.Profile.{IsClause}
+use Rattle.ground_form.specs.Profile.{IsClause, IsGround}
 use Rattle.ground_form.proofs.Numbers.{next_zip, clauses_grow, extends_trans, formula_there, there_holds}
 use Rattle.ground_form.proofs.Truths.{clauses_below, clauses_truth}
 use Rattle.ground_form.proofs.clauses.clauses_of.Goals as goal
@@ -17,7 +17,7 @@ pub clause_of-requires-clause-clause : goal.clause_of-requires-clause-clause
 clause_of-requires-clause-clause c =
     let lines = c.args.lines.now in
     let i = c.loop-line.line-index in
-    there_holds (IsClause c.args.functions.now) (formulas_in lines) i c.line-item.result.formula
+    there_holds (IsClause c.args.functions.now (IsGround c.args.functions.now)) (formulas_in lines) i c.line-item.result.formula
     (formula_there lines i c.line-item.result c.loop-line-test.true c.line-item.is) c.requires.clauses
 
 pub loop-line-preserved : goal.loop-line-preserved

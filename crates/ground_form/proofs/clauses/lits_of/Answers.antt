@@ -1,13 +1,13 @@
 use Rattle.std.proofs.Common.{take, length, refl, sym, subst}
 use Rattle.std.proofs.lemmas.Option.{slice_get_read}
 use Rattle.ground_form.specs.Numbering.{IsLitOf}
-use Rattle.ground_form.specs.Profile.{IsLiteral}
+use Rattle.ground_form.specs.Profile.{IsLiteral, IsGround}
 use Rattle.ground_form.proofs.Numbers.{next_zip, lits_grow, extends_trans}
 use Rattle.ground_form.proofs.clauses.lits_of.Goals as goal
 
 pub literal_of-requires-clause-literal : goal.literal_of-requires-clause-literal
 literal_of-requires-clause-literal c =
-    subst (IsLiteral c.args.functions.now) (sym c.literal-item.is) (c.requires.literals c.loop-literal.literal-index c.literal-item.result c.loop-literal-test.true)
+    subst (IsLiteral c.args.functions.now (IsGround c.args.functions.now)) (sym c.literal-item.is) (c.requires.literals c.loop-literal.literal-index c.literal-item.result c.loop-literal-test.true)
 
 pub loop-literal-preserved : goal.loop-literal-preserved
 loop-literal-preserved c =

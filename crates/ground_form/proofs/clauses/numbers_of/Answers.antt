@@ -4,10 +4,10 @@ use Rattle.ground_form.specs.Numbering.{IsNumberOf}
 use Rattle.ground_form.proofs.Numbers.{next_zip}
 use Rattle.ground_form.proofs.clauses.numbers_of.Goals as goal
 
-pub loop-constant-preserved : goal.loop-constant-preserved
-loop-constant-preserved c =
-    let constants = c.args.constants.now in
-    let i = c.loop-constant.constant-index in
-    let here = slice_get_read constants (length constants) i c.constant-item.result refl c.loop-constant-test.true c.constant-item.is in
+pub loop-term-preserved : goal.loop-term-preserved
+loop-term-preserved c =
+    let terms = c.args.terms.now in
+    let i = c.loop-term.term-index in
+    let here = slice_get_read terms (length terms) i c.term-item.result refl c.loop-term-test.true c.term-item.is in
     rw (c.in_ok-push.ensures.ok)
-    (next_zip (IsNumberOf c.args.pool.now.terms) c.loop-constant.ids constants i c.number_of.result c.constant-item.result here c.loop-constant.invariant c.number_of.ensures)
+    (next_zip (IsNumberOf c.args.pool.now.terms) c.loop-term.ids terms i c.number_of.result c.term-item.result here c.loop-term.invariant c.number_of.ensures.place)

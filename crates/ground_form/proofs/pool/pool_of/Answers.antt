@@ -1,11 +1,12 @@
 use Rattle.std.proofs.Common.{sym, ap, subst, ◌∙◌, arith}
 use Rattle.std.proofs.lemmas.List.{drop_all}
 use Rattle.ground_form.specs.Atoms.{IsPool}
-use Rattle.ground_form.specs.PoolSteps.{pool_with_all}
+use Rattle.ground_form.specs.PoolSteps.{pool_with_all, with_seed}
 use Rattle.ground_form.proofs.Pools.{pool_is}
 use Rattle.ground_form.proofs.pool.pool_of.Goals as goal
 
 pub returns : goal.returns
 returns c =
     let whole = ap (pool_with_all c.loop-function.pool) (drop_all c.loop-function.function-index c.args.functions.now (omega arith)) in
-    subst (IsPool c.args.functions.now) (sym c.loop-function.invariant ∙ whole) (pool_is c.args.functions.now)
+    rw (c.in_ok-push_seed.ensures)
+    (subst (λ pool. IsPool c.args.functions.now (with_seed pool)) (sym c.loop-function.invariant ∙ whole) (pool_is c.args.functions.now))
