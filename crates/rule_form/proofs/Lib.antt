@@ -1,0 +1,4 @@
+pub mod Putting
+pub mod Shapes
+pub mod RuleInstances
+pub mod Chosen
