@@ -3,3 +3,4 @@ pub mod PlaceEnds
 pub mod PlaceRanks
 pub mod RowLookups
 pub mod RowOrder
+pub mod ShownParts

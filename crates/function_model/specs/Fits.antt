@@ -1,4 +1,4 @@
-use Rattle.std.specs.Prelude.{◌≡◌, ℕ, ◌≤◌, ◌+◌, true, List, [], ◌∷◌, length, All, Contains}
+use Rattle.std.specs.Prelude.{◌≡◌, ℕ, ◌≤◌, ◌+◌, true, List, [], ◌∷◌, ◌++◌, length, All, Contains}
 use Rattle.std.specs.Ordering.{is_lt, ordering_then}
 use Rattle.std.specs.declared.cmp.Ordering.{Ordering}
 use Rattle.std.specs.declared.cmp.Ordering.TheVariants.{Less, Equal, Greater}
@@ -13,7 +13,8 @@ use Rattle.mbqi_terms.specs.declared.sort.Sort.TheVariants as sort
 use Rattle.function_model.specs.declared.model.FunctionModel.{FunctionModel}
 use Rattle.function_model.specs.declared.model.Row.{Row}
 use Rattle.function_model.specs.declared.model.Table.{Table}
-use Rattle.function_model.specs.declared.model.TableName.TheVariants.{Declared}
+use Rattle.function_model.specs.declared.model.TableName.{TableName}
+use Rattle.function_model.specs.declared.model.TableName.TheVariants.{Declared, Seed, Far}
 use Rattle.function_model.specs.Holds.{IsOf, plain_sort}
 
 -- A number is absolutely below 2 ^ 124; other values are as small as their sort.
@@ -116,3 +117,29 @@ pub record Fits (script : Script) (model : FunctionModel) : Type 0 where
   pub sorts : length model.sizes ≡ length script.sorts
   pub sizes : All (λ size. 1 ≤ size) model.sizes
   pub tables : FitFunctions model.sizes 0 script.functions model.tables
+
+-- The table of a hidden name without arguments, of this sort.
+pub record FitsHidden (sizes : List ℕ) (wanted : TableName) (result : Sort) (table : Table) : Type 0 where
+  pub name : table.name ≡ wanted
+  pub fits : FitsTable sizes [] result table
+
+-- A table for the seed of each declared sort in order, from number s on, and last one for the integer past which each array has
+-- its default. The names of the sorts count them.
+abbrev pub FitHidden : List ℕ → ℕ → List (List ℕ) → List Table → Type 0
+FitHidden sizes s [] [] = ⊥
+FitHidden sizes s [] (table ∷ []) = FitsHidden sizes Far sort.Int table
+FitHidden sizes s [] (table ∷ next ∷ tables) = ⊥
+FitHidden sizes s (name ∷ names) [] = ⊥
+FitHidden sizes s (name ∷ names) (table ∷ tables) =
+    FitsHidden sizes (Seed s) (sort.Elem s) table × FitHidden sizes (s + 1) names tables
+
+-- A full model fits a script without Skolem symbols and arrays: it is a shown one that fits, with the tables of the hidden names
+-- behind those of the declared functions.
+pub record FitsFull (script : Script) (model : FunctionModel) : Type 0 where
+  pub sorts : length model.sizes ≡ length script.sorts
+  pub sizes : All (λ size. 1 ≤ size) model.sizes
+  pub declared : List Table
+  pub hidden : List Table
+  pub tables : model.tables ≡ declared ++ hidden
+  pub functions : FitFunctions model.sizes 0 script.functions declared
+  pub names : FitHidden model.sizes 0 script.sorts hidden

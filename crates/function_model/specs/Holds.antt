@@ -19,6 +19,7 @@ use Rattle.mbqi_terms.specs.declared.term.ArrayTerm.TheFolds.{fold-ArrayTerm}
 use Rattle.mbqi_terms.specs.declared.term.ArrayTerm.TheOpen.{ArrayTerm-F}
 use Rattle.function_model.specs.declared.model.FunctionModel.{FunctionModel}
 use Rattle.function_model.specs.Lookup.{is_same}
+use Rattle.function_model.specs.TruthOf.{Meanings}
 use Rattle.function_model.specs.ValueOf.{Point, value_of, array_of}
 
 -- The value has the sort in a universe of these sizes; all integers have the sort Int.
@@ -120,6 +121,10 @@ unfoldable mutual
 -- The point of a formula without free variables: nothing reads it.
 abbrev pub nowhere : Point
 nowhere place = Truth false
+
+-- The values of ground terms in a model; no array equality is read.
+abbrev pub values_in : FunctionModel → Meanings
+values_in model = record { value = λ t. value_of model t nowhere; same = λ a b. false }
 
 -- Each assertion of the script holds, over all integers and the whole universe of the model.
 abbrev pub AssertionsHold : List Function → FunctionModel → List Assertion → Type 0

@@ -2,5 +2,6 @@ pub mod Fits
 pub mod Holds
 pub mod Lookup
 pub mod Rising
+pub mod Shown
 pub mod TruthOf
 pub mod ValueOf

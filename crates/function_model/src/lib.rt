@@ -8,10 +8,12 @@
 mod look_up;
 pub mod model;
 mod rising;
+mod shown;
 
 pub use look_up::projected;
 pub use model::{FunctionModel, Row, Rows, Table, TableName, Tables, ValueLists};
 pub use rising::{rising_rows, rows_fit};
+pub use shown::{shown_fits, shown_has_declared};
 
 #[cfg(test)]
 mod tests;

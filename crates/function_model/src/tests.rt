@@ -1,5 +1,5 @@
-use crate::{Row, Table, TableName, projected, rising_rows};
-use mbqi_values::{Sequence, Value};
+use crate::{FunctionModel, Row, Table, TableName, Tables, projected, rising_rows};
+use mbqi_values::{Sequence, Sizes, Value};
 use std::alloc::{AllocError, Global};
 
 fn values<const N: usize>(alloc: Global, all: [Value; N]) -> Result<Sequence<Value>, AllocError> {
@@ -58,16 +58,43 @@ fn element_that_is_no_knot_goes_to_the_first(rt: HostRuntime) -> Result<(), Allo
     Ok(())
 }
 
+/// A table without arguments.
+fn constant(alloc: Global, name: TableName, value: Value) -> Table {
+    Table {
+        name,
+        knots: Sequence::new(alloc),
+        rows: Sequence::new(alloc),
+        default: value,
+    }
+}
+
 #[test]
 fn default_where_no_row_is(rt: HostRuntime) -> Result<(), AllocError> {
-    let table = Table {
-        name: TableName::Declared(0),
-        knots: Sequence::new(rt.alloc()),
-        rows: Sequence::new(rt.alloc()),
-        default: Value::Elem(2),
-    };
+    let table = constant(rt.alloc(), TableName::Declared(0), Value::Elem(2));
     assert!(rt; table.look_up(&[]) == Value::Elem(2));
     assert!(rt; projected(&[], Value::Num(4)) == Value::Num(4));
+    Ok(())
+}
+
+#[test]
+fn hidden_tables_are_not_shown(rt: HostRuntime) -> Result<(), AllocError> {
+    let alloc = rt.alloc();
+    let mut tables = Tables::new(alloc);
+    tables.push(constant(alloc, TableName::Seed(0), Value::Elem(2)))?;
+    tables.push(constant(alloc, TableName::Declared(0), Value::Elem(1)))?;
+    tables.push(constant(alloc, TableName::Far, Value::Num(0)))?;
+    tables.push(constant(alloc, TableName::Skolem(1, 0), Value::Elem(0)))?;
+    let sizes = Sizes::from_slice(alloc, &[3])?;
+    let shown = FunctionModel { sizes, tables }.shown(alloc)?;
+    assert!(rt; shown.tables.len() == 2);
+    assert!(rt;
+        shown.tables.as_slice()[0].look_up(&[]) == Value::Elem(1),
+        "the function"
+    );
+    assert!(rt;
+        shown.tables.as_slice()[1].look_up(&[]) == Value::Elem(0),
+        "the Skolem symbol"
+    );
     Ok(())
 }
 
