@@ -1,4 +1,4 @@
--- Lawful valuations of ground terms (congruence and arithmetic with constant offsets; SMT-LIB 2.6, theories Core and Ints).
+-- Plainly lawful valuations of ground terms (congruence and arithmetic with constant offsets; SMT-LIB 2.6, theories Core and Ints).
 use Rattle.std.specs.Prelude.{◌≡◌, ℤ, Bool, List, map, Some}
 use Rattle.mbqi_values.specs.declared.value.Value.{Value}
 use Rattle.mbqi_values.specs.declared.value.Value.TheVariants.{Num, Elem, Truth}
@@ -12,7 +12,7 @@ use Rattle.mbqi_terms.specs.declared.term.Symbol.{Symbol}
 use Rattle.mbqi_terms.specs.declared.term.Term.{Term, out-Term}
 use Rattle.function_model.specs.TruthOf.{Meanings}
 use Rattle.function_model.specs.ValueOf.{plus_number}
-use Rattle.mbqi_loop.specs.Instance.{lists_of}
+use Rattle.rule_form.specs.Instance.{lists_of}
 
 -- The value has the sort, whatever elements there are.
 abbrev pub IsOfSort : Sort → Value → Type 0
@@ -29,7 +29,7 @@ IsOfSort (sort.Array i e) v = ⊥
 
 -- The values of the terms that stand there are as the terms ask: each has its sort, numerals and truths have their own value, a sum has
 -- that of its term plus its number, and applications of one symbol, or reads of one array, to equal values have equal values.
-pub record IsLawful (functions : List Function) (Stands : Term → Type 0) (m : Meanings) : Type 0 where
+pub record IsPlainlyLawful (functions : List Function) (Stands : Term → Type 0) (m : Meanings) : Type 0 where
   pub sorts : (t : Term) (s : Sort) → Stands t → sort_of_term (lists_of functions) t ≡ Some s → IsOfSort s (m.value t)
   pub numbers : (t : Term) (n : ℤ) → Stands t → out-Term t ≡ Term-F.Num n → m.value t ≡ Num n
   pub truths : (t : Term) (b : Bool) → Stands t → out-Term t ≡ Term-F.Truth b → m.value t ≡ Truth b

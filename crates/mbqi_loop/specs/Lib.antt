@@ -1,5 +1,5 @@
-pub mod Substitution
-pub mod Instance
 pub mod Lawful
 pub mod Refuted
 pub mod Outcome
+pub mod Journal
+pub mod Listed

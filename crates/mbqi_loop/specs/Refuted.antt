@@ -9,8 +9,8 @@ use Rattle.mbqi_terms.specs.declared.instance.InstanceLine.{InstanceLine}
 use Rattle.mbqi_terms.specs.declared.script.Script.{Script}
 use Rattle.mbqi_terms.specs.declared.term.Term.{Term}
 use Rattle.function_model.specs.TruthOf.{Meanings, truth_of}
-use Rattle.mbqi_loop.specs.Instance.{IsInstance}
-use Rattle.mbqi_loop.specs.Lawful.{IsLawful}
+use Rattle.rule_form.specs.Instance.{IsInstance}
+use Rattle.mbqi_loop.specs.Lawful.{IsPlainlyLawful}
 
 -- The terms of a formula's atoms; array equalities have pairs of arrays in their place.
 abbrev pub terms_layer : Formula-F (List Term) → List Term
@@ -34,8 +34,12 @@ terms_in f = fold-Formula (List Term) terms_layer f
 abbrev pub StandsIn : List InstanceLine → Term → Type 0
 StandsIn lines t = (line : InstanceLine) × Contains lines line × ((whole : Term) × Contains (terms_in line.formula) whole × IsPart t whole)
 
--- Each line is an instance of its assertion, and each lawful valuation of the terms that stand in them makes one of them false.
+-- Each line is an instance of its assertion.
+abbrev pub AreInstances : Script → List InstanceLine → Type 0
+AreInstances script lines = All (λ (line : InstanceLine). IsInstance script line.assertion line.terms line.formula) lines
+
+-- Each line is an instance of its assertion, and each plainly lawful valuation of the terms that stand in them makes one of them false.
 pub record IsRefuted (script : Script) (lines : List InstanceLine) : Type 0 where
-  pub instances : All (λ (line : InstanceLine). IsInstance script line.assertion line.terms line.formula) lines
-  pub falsified : (m : Meanings) → IsLawful script.functions (StandsIn lines) m
+  pub instances : AreInstances script lines
+  pub falsified : (m : Meanings) → IsPlainlyLawful script.functions (StandsIn lines) m
       → (line : InstanceLine) × Contains lines line × (truth_of m line.formula ≡ false)

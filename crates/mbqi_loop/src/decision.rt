@@ -1,37 +1,53 @@
-//! The decision of the instances of a script.
+//! The decision of the listed instances.
 
-ghost use Rattle.std.specs.Prelude.{◌≡◌, IfOk};
+ghost use Rattle.std.specs.Prelude.{◌≡◌, ◌++◌, [], false, List, IfOk, IfSome, IfNone};
+ghost use Rattle.std.specs.List.{list_all};
+ghost use Rattle.mbqi_terms.specs.declared.instance.InstanceLine.{InstanceLine};
 ghost use Rattle.function_model.specs.Fits.{Fits};
 ghost use Rattle.function_model.specs.Holds.{Holds};
+ghost use Rattle.function_model.specs.Shown.{shown_of};
+ghost use Rattle.function_model.specs.TruthOf.{Meanings, truth_of};
+ghost use Rattle.ground_form.specs.Atoms.{IsPool, formulas_in};
 ghost use Rattle.ground_form.specs.Profile.{IsElementary};
-ghost use Rattle.mbqi_loop.specs.Outcome.{IfSat, IfUnsat, instances_from};
-ghost use Rattle.mbqi_loop.specs.Refuted.{IsRefuted};
+ghost use Rattle.mbqi_loop.specs.Journal.{IsRound, first_lines};
+ghost use Rattle.mbqi_loop.specs.Listed.{IsListed};
 
-use crate::outcome::Outcome;
+use crate::listed::Listed;
+use crate::outcome::Round;
 use clause_search::{Searched, search_clauses};
 use element_models::element_model;
-use ground_form::{AtomTable, clauses_of, pool_of};
-use mbqi_terms::{InstanceLines, Script};
+use function_model::{shown_fits, shown_has_declared};
+use ground_form::Pool;
+use mbqi_terms::Script;
 use std::alloc::{AllocError, Global};
+use tuple_check::failing_choices;
 
-/// A model of the instances of assertions without quantifiers, or the instances, where no valuation makes all of them true.
-#[tactic(auto, using(crate::proofs::Lines::lines_are_clauses))]
-pub fn decide(alloc: Global, script: &Script, lines: InstanceLines) -> Result<Outcome, AllocError>
+/// A round over the listed instances: a model of them, and all choices at which a rule fails in it; or none, where no valuation makes
+/// all of them true. Where the round adds nothing, each assertion holds in the shown part of its model.
+pub fn decide(
+    alloc: Global,
+    script: &Script,
+    pool: &Pool,
+    listed: &Listed,
+) -> Result<Option<Round>, AllocError>
     requires elementary { IsElementary script.now }
-    requires lines { lines ≡ instances_from 0 script.now.assertions }
-    ensures fits { IfOk result (λ outcome. IfSat outcome (Fits script.now)) }
-    ensures holds { IfOk result (λ outcome. IfSat outcome (λ model. Holds model script.now)) }
-    ensures refuted { IfOk result (λ outcome. IfUnsat outcome (IsRefuted script.now)) }
+    requires pool { IsPool script.now.functions pool.now }
+    requires listed { IsListed script.now.functions pool.now.terms listed.now }
+    requires first { (more : List InstanceLine) × (listed.now.lines ≡ first_lines script.now ++ more) }
+    ensures round { IfOk result (λ found. IfSome found (IsRound script.now listed.now.lines)) }
+    ensures fits { IfOk result (λ found. IfSome found (λ round. Fits script.now (shown_of round.model))) }
+    ensures holds { IfOk result (λ found. IfSome found (λ round. round.added ≡ [] → Holds (shown_of round.model) script.now)) }
+    ensures refuted { IfOk result (λ found. IfNone found ((m : Meanings) → list_all (truth_of m) (formulas_in listed.now.lines) ≡ false)) }
 {
-    let functions = script.functions.as_slice();
-    let pool = pool_of(alloc, functions)?;
-    let mut table = AtomTable::new(alloc);
-    let clauses = clauses_of(alloc, functions, &pool, &mut table, lines.as_slice())?;
-    match search_clauses(alloc, &clauses, table.len())? {
+    let atoms = listed.table.as_slice();
+    match search_clauses(alloc, &listed.clauses, listed.table.len())? {
         Searched::Found(truths) => {
-            let model = element_model(alloc, script, &pool, table.as_slice(), truths.as_slice())?;
-            Ok(Outcome::Sat(model))
+            let model = element_model(alloc, script, pool, atoms, truths.as_slice())?;
+            let added = failing_choices(alloc, script, pool, &listed.table, truths.as_slice())?;
+            shown_fits();
+            shown_has_declared();
+            Ok(Some(Round { model, added }))
         }
-        Searched::Closed => Ok(Outcome::Unsat(lines)),
+        Searched::Closed => Ok(None),
     }
 }

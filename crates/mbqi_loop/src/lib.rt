@@ -1,14 +1,15 @@
-//! The loop that decides a script: instances of its assertions, and a model of them or none.
+//! The loop that decides a script: it lists instances of rules that are false in a model of those listed before, until no rule fails in the
+//! model, or the listed instances have none.
 //!
-//! Start with [`solve_rules`] and its answer [`Outcome`]. What an instance is, which valuations are lawful, and when instances
-//! are refuted stands in `specs/Instance.antt`, `specs/Lawful.antt` and `specs/Refuted.antt`.
+//! Start with [`solve_rules`] and its answer [`Outcome`]. What its journal says stands in `specs/Journal.antt`, which valuations are plainly
+//! lawful in `specs/Lawful.antt`, and when instances are refuted in `specs/Refuted.antt`.
 
 #![tactic(auto)]
 
 mod decision;
-mod instances;
+mod listed;
 pub mod outcome;
 mod solve;
 
-pub use outcome::Outcome;
+pub use outcome::{Journal, Outcome, Round};
 pub use solve::solve_rules;
