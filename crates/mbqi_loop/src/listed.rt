@@ -1,7 +1,6 @@
 //! The listed instances.
 
-ghost use Rattle.std.specs.Prelude.{◌≡◌, ◌++◌, [], All, IfOk, OnOk};
-ghost use Rattle.mbqi_terms.specs.declared.instance.InstanceLine.{InstanceLine};
+ghost use Rattle.std.specs.Prelude.{◌≡◌, ◌++◌, [], All, IfOk};
 ghost use Rattle.ground_form.specs.Atoms.{IsPool, formulas_in};
 ghost use Rattle.ground_form.specs.Profile.{IsClause, IsGround};
 ghost use Rattle.mbqi_loop.specs.Listed.{IsListed};
@@ -9,6 +8,7 @@ ghost use Rattle.mbqi_loop.specs.Listed.{IsListed};
 use clause_search::LitLists;
 use ground_form::{AtomTable, Pool, clauses_of};
 use mbqi_terms::{Function, InstanceLines};
+use mbqi_values::Sequence;
 use std::alloc::{AllocError, Global};
 
 /// Instances, with their clauses over numbered atoms.
@@ -32,26 +32,39 @@ pub fn nothing_listed(alloc: Global) -> Listed
     }
 }
 
-/// Puts instances behind the others. The one error is want of memory, after which the list is of no use.
+/// Puts instances behind the others. The one error is want of memory.
 pub fn list(
     alloc: Global,
     functions: &[Function],
     pool: &Pool,
-    listed: &mut Listed,
+    listed: Listed,
     lines: InstanceLines,
-) -> Result<(), AllocError>
+) -> Result<Listed, AllocError>
     requires pool { IsPool functions.now pool.now }
-    requires listed { IsListed functions.now pool.now.terms listed.old }
+    requires listed { IsListed functions.now pool.now.terms listed }
     requires ground { All (IsClause functions.now (IsGround functions.now)) (formulas_in lines) }
-    ensures listed { OnOk result (IsListed functions.now pool.now.terms listed.new) }
-    ensures lines { OnOk result (listed.new.lines ≡ listed.old.lines ++ lines) }
+    ensures listed { IfOk result (IsListed functions.now pool.now.terms) }
+    ensures lines { IfOk result (λ more. more.lines ≡ listed.lines ++ lines) }
 {
-    let clauses = clauses_of(alloc, functions, pool, &mut listed.table, lines.as_slice())?;
-    for clause in clauses.into_vec() {
-        listed.clauses.push(clause)?;
-    }
-    for line in lines.into_vec() {
-        listed.lines.push(line)?;
-    }
-    Ok(())
+    let Listed {
+        lines: before,
+        mut table,
+        clauses,
+    } = listed;
+    let more = clauses_of(alloc, functions, pool, &mut table, lines.as_slice())?;
+    Ok(Listed {
+        lines: joined(before, lines)?,
+        table,
+        clauses: joined(clauses, more)?,
+    })
+}
+
+// The items of both, in order.
+fn joined<T: Drop>(items: Sequence<T>, more: Sequence<T>) -> Result<Sequence<T>, AllocError>
+    ensures { IfOk result (λ all. all ≡ items ++ more) }
+{
+    let mut all = items.into_vec();
+    let mut more = more.into_vec();
+    all.append(&mut more)?;
+    Ok(Sequence::from_vec(all))
 }

@@ -1,6 +1,6 @@
 //! From a script to its outcome.
 
-ghost use Rattle.std.specs.Prelude.{◌≡◌, ◌+◌, ◌≤◌, ◌++◌, ◌∷◌, [], All, IfOk, OnOk};
+ghost use Rattle.std.specs.Prelude.{◌≡◌, ◌+◌, ◌≤◌, ◌++◌, ◌∷◌, [], All, IfOk};
 ghost use Rattle.function_model.specs.Fits.{Fits};
 ghost use Rattle.function_model.specs.Holds.{Holds};
 ghost use Rattle.ground_form.specs.Atoms.{IsPool};
@@ -42,9 +42,9 @@ pub fn solve_rules<L: Ledger>(
     ensures at_most { steps.new ≤ steps.old + count script.now + 1 }
 {
     let pool = pool_of(alloc, script.functions.as_slice())?;
-    let mut listed = nothing_listed(alloc);
+    let none = nothing_listed(alloc);
     let first = first_lines(alloc, script)?;
-    list(alloc, script.functions.as_slice(), &pool, &mut listed, first)?;
+    let listed = list(alloc, script.functions.as_slice(), &pool, none, first)?;
     rounds(alloc, script, &pool, listed, steps)
 }
 
@@ -79,7 +79,7 @@ fn rounds<L: Ledger>(
         if round.added.is_empty() {
             return model_found(alloc, journal, round);
         }
-        add(alloc, script, pool, &mut listed, &round)?;
+        listed = add(alloc, script, pool, listed, &round)?;
         journal.push(round)?;
     }
 }
@@ -89,17 +89,17 @@ fn add(
     alloc: Global,
     script: &Script,
     pool: &Pool,
-    listed: &mut Listed,
+    listed: Listed,
     round: &Round,
-) -> Result<(), AllocError>
+) -> Result<Listed, AllocError>
     requires elementary { IsElementary script.now }
     requires pool { IsPool script.now.functions pool.now }
-    requires listed { IsListed script.now.functions pool.now.terms listed.old }
-    requires instances { AreInstances script.now listed.old.lines }
+    requires listed { IsListed script.now.functions pool.now.terms listed }
+    requires instances { AreInstances script.now listed.lines }
     requires choices { All (IsChoice script.now) round.now.added }
-    ensures listed { OnOk result (IsListed script.now.functions pool.now.terms listed.new) }
-    ensures instances { OnOk result (AreInstances script.now listed.new.lines) }
-    ensures lines { OnOk result (listed.new.lines ≡ lines_after script.now listed.old.lines round.now) }
+    ensures listed { IfOk result (IsListed script.now.functions pool.now.terms) }
+    ensures instances { IfOk result (λ more. AreInstances script.now more.lines) }
+    ensures lines { IfOk result (λ more. more.lines ≡ lines_after script.now listed.lines round.now) }
 {
     let lines = chosen_lines(alloc, script, round.added.as_slice())?;
     list(alloc, script.functions.as_slice(), pool, listed, lines)
