@@ -2,7 +2,7 @@
 use Rattle.std.proofs.Common.{◌≡◌, ℕ, zero, suc, ◌+◌, ◌<◌, Bool, true, false, ◌&&◌, not, cond, List, [], ◌∷◌, ◌++◌, length, refl, sym, ap, subst, ◌∙◌, inl, inr, arith}
 use Rattle.std.specs.Prelude.{◌⊎◌, ◌==◌, All, Option, None, Some, codes, slice_get}
 use Rattle.std.specs.List.{AllByRecursion, position_from}
-use Rattle.std.specs.Option.{option_and_then, option_map}
+use Rattle.std.specs.Option.{option_map}
 use Rattle.std.specs.Str.{bytes_eq}
 use Rattle.std.proofs.lemmas.Bool.{eqb-true}
 use Rattle.std.proofs.lemmas.List.Elements.{All-nil, All-cons, All-weaker}
@@ -11,7 +11,6 @@ use Rattle.sexpr_text.specs.declared.tree.Sexpr.{Sexpr}
 use Rattle.mbqi_terms.specs.declared.formula.Formula.{Formula}
 use Rattle.mbqi_terms.specs.declared.formula.Formula.TheVariants as formula
 use Rattle.mbqi_terms.specs.declared.script.Function.{Function}
-use Rattle.mbqi_terms.specs.declared.sort.Sort.{Sort}
 use Rattle.mbqi_terms.specs.declared.sort.Sort.TheVariants as sort
 use Rattle.mbqi_terms.specs.declared.term.Symbol.TheVariants as symbol
 use Rattle.mbqi_terms.specs.declared.term.Term.{Term}
@@ -59,8 +58,12 @@ clause_stays : (functions more : List Function) (n : ℕ) (f : Formula) → IsCl
     → IsClause (functions ++ more) (IsArgument (functions ++ more) n) f
 clause_stays functions more n f (inl is) = inl (literal_stays functions more n f is)
 clause_stays functions more n f (inr is) =
-    inr (is.0, is.1, All-weaker (IsLiteral functions (IsArgument functions n)) (IsLiteral (functions ++ more) (IsArgument (functions ++ more) n))
-    (literal_stays functions more n) is.0 is.2)
+    inr (
+      is.0,
+      is.1,
+      All-weaker (IsLiteral functions (IsArgument functions n)) (IsLiteral (functions ++ more) (IsArgument (functions ++ more) n))
+          (literal_stays functions more n) is.0 is.2,
+    )
 
 -- a rule over the functions is one over more functions
 pub rule_stays : (functions more : List Function) (f : Formula) → IsRule functions f → IsRule (functions ++ more) f

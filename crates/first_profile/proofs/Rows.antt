@@ -85,9 +85,9 @@ taken :
     (read (p c x) ≡ Some (holds 2 (constant 0 ∷ constant 1 ∷ [])))
     × (read (all (bound x ∷ []) (p c x)) ≡ Some (Forall (element 0 ∷ []) (holds 2 (constant 0 ∷ Var 0 ∷ []))))
     × (read (all (bound x ∷ bound y ∷ []) (either (two (word (codes "not")) (p y x)) (q c)))
-        ≡ Some (Forall (element 0 ∷ element 1 ∷ []) (Any (Not (holds 2 (Var 1 ∷ Var 0 ∷ [])) ∷ holds 3 (constant 0 ∷ []) ∷ []))))
+    ≡ Some (Forall (element 0 ∷ element 1 ∷ []) (Any (Not (holds 2 (Var 1 ∷ Var 0 ∷ [])) ∷ holds 3 (constant 0 ∷ []) ∷ []))))
     × (read (all (bound (word (codes "q")) ∷ bound (word (codes "S")) ∷ []) (p (word (codes "S")) (word (codes "q"))))
-        ≡ Some (Forall (element 0 ∷ element 1 ∷ []) (holds 2 (Var 1 ∷ Var 0 ∷ []))))
+    ≡ Some (Forall (element 0 ∷ element 1 ∷ []) (holds 2 (Var 1 ∷ Var 0 ∷ []))))
 unfolding constant_of argument_of head_of atom_of_parts atom_of literal_of_parts literal_of clause_of rule_of bound_name name_of_binder variables_of is_symbol_byte out-Sexpr hidden-the_row-Sexpr-0 hidden-the_row-Term-3 hidden
 taken = (
   search (rules, trees.the_lemmas, formulas.the_lemmas, terms.the_lemmas),
