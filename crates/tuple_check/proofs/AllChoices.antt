@@ -104,14 +104,16 @@ module _ (script : Script) (is : IsElementary script) (pool : Pool) (is_pool : I
       let P = IsFailing k (variables_of a.formula) (clause_of a.formula) in
       let here = All-head P c choices all in
       let e : c.rule ≡ k = ap (λ d. d.rule) here.choice_is in
-      All-cons (λ c. FailsSomewhere c × (c.rule ≡ k)) c choices
-      (record {
-        assertion = a;
-        there = ap (slice_get script.assertions) e ∙ there;
-        rule = rule;
-        some = some;
-        failing = subst (λ r. IsFailing r (variables_of a.formula) (clause_of a.formula) c) (sym e) here;
-      }, e)
+      All-cons (λ c. FailsSomewhere c × (c.rule ≡ k)) c choices (
+        record {
+          assertion = a;
+          there = ap (slice_get script.assertions) e ∙ there;
+          rule = rule;
+          some = some;
+          failing = subst (λ r. IsFailing r (variables_of a.formula) (clause_of a.formula) c) (sym e) here;
+        },
+        e,
+      )
       (somewhere k a there rule some choices (All-tail P c choices all))
 
   raise : (k : ℕ) (choices : List Choice) → All (λ c. FailsSomewhere c × (k + 1 ≤ c.rule)) choices → All (λ c. FailsSomewhere c × (k ≤ c.rule)) choices

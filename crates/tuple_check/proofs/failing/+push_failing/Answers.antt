@@ -20,10 +20,19 @@ push_failing-requires t c =
     let n : length c.args.tuple.now.items + c.args.more ≡ length c.push.new.self.items + (c.args.more - 1) = omega (arith, long, c.if-more-eq0.false) in
     let below : c.loop-number.number < size = omega (arith, c.loop-number-test.true, c.len-number-end.ensures) in
     let within : All (λ i. i < size) (c.args.tuple.now.items ++ c.loop-number.number ∷ []) =
-    All-append (λ i. i < size) c.args.tuple.now.items (c.loop-number.number ∷ []) c.requires.within (All-cons (λ i. i < size) c.loop-number.number [] below (All-nil (λ i. i < size))) in
-    (omega (arith, c.decreases, c.if-more-eq0.false), (c.requires.pool,
-    (subst (λ k. IsClause c.args.functions.now (IsArgument c.args.functions.now k) c.args.clause.now) n c.requires.clause, (c.requires.truths,
-    subst (All (λ i. i < size)) (sym items) within))))
+    All-append (λ i. i < size) c.args.tuple.now.items (c.loop-number.number ∷ []) c.requires.within (All-cons (λ i. i < size) c.loop-number.number [] below (All-nil (λ i. i < size))) in (
+      omega (arith, c.decreases, c.if-more-eq0.false),
+      (
+        c.requires.pool,
+        (
+          subst (λ k. IsClause c.args.functions.now (IsArgument c.args.functions.now k) c.args.clause.now) n c.requires.clause,
+          (
+            c.requires.truths,
+            subst (All (λ i. i < size)) (sym items) within,
+          ),
+        ),
+      ),
+    )
 
 pub returns-clause-choices : goal.returns-clause-choices
 returns-clause-choices t c =
