@@ -112,3 +112,17 @@ found knots default (atom ∷ atoms) (truth ∷ truths) (suc k) d distinct many 
     let place : 0 ≡ suc k = same_place (atom ∷ atoms) distinct 0 (suc k) d (omega arith) h same in
     absurd (omega (arith, place)))
     (found knots default atoms truths k d (tail_distinct atom atoms distinct) (omega (arith, many)) (omega arith) self only)
+
+-- a look-up at the elements of an atom that isn't there
+pub not_found : (knots : List (List Value)) (default : Value) (atoms : List GroundAtom) (truths : List Bool) (wanted : GroundAtom)
+    → (Contains atoms wanted → ⊥)
+    → ((places : List Value) → is_at places knots (map element_of wanted.args) ≡ true → places ≡ map element_of wanted.args)
+    → value_at (rows_of atoms truths wanted.predicate) knots (map element_of wanted.args) default ≡ default
+not_found knots default [] truths wanted missing only = refl
+not_found knots default (atom ∷ atoms) [] wanted missing only = refl
+not_found knots default (atom ∷ atoms) (truth ∷ truths) wanted missing only =
+    beyond knots (map element_of wanted.args) default (wanted.predicate == atom.predicate) (row_of atom truth) (rows_of atoms truths wanted.predicate) default
+    (λ b e.
+    let same : atom ≡ wanted = same_atom atom wanted (sym (eqb-true wanted.predicate atom.predicate b)) (only (map element_of atom.args) e) in
+    missing (0, omega arith, same))
+    (not_found knots default atoms truths wanted (λ there. missing (suc there.0, omega (arith, there.1), there.2)) only)

@@ -1,8 +1,12 @@
 -- How many constants and elements there are.
-use Rattle.std.proofs.Common.{◌≡◌, ℕ, ◌+◌, Bool, true, false, List, [], ◌∷◌, length, refl, cond, arith}
+use Rattle.std.proofs.Common.{◌≡◌, ℕ, ◌+◌, Bool, true, false, List, [], ◌∷◌, ◌++◌, length, length-append, refl, cond, arith}
 use Rattle.mbqi_terms.specs.declared.script.Function.{Function}
 use Rattle.mbqi_terms.specs.declared.term.Term.{Term}
-use Rattle.ground_form.specs.Profile.{is_constant, constant, constants_from, constants_of}
+use Rattle.ground_form.specs.Profile.{is_constant, constant, constants_from, constants_of, seed}
+
+-- The terms of the pool.
+abbrev pub terms_of : List Function → List Term
+terms_of functions = constants_of functions ++ seed ∷ []
 
 -- How many elements the universe has: one for each constant, and one more.
 abbrev pub size_of : List Function → ℕ
@@ -20,3 +24,7 @@ pub length_constants : (f : ℕ) (functions : List Function) → length (constan
 length_constants f [] = refl
 length_constants f (function ∷ functions) =
     more (is_constant function) (constant f) (constants_from (f + 1) functions) (constants_in functions) (length_constants (f + 1) functions)
+
+-- each element is that of a term
+pub length_terms : (functions : List Function) → length (terms_of functions) ≡ size_of functions
+length_terms functions = length-append (constants_of functions) (seed ∷ [])

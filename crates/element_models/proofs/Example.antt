@@ -5,10 +5,10 @@ use Rattle.std.proofs.lemmas.List.Elements.{All-from_recursion}
 use Rattle.ground_form.specs.Atoms.{IsOver}
 use Rattle.element_models.specs.Example.{one_predicate, atom_on, example_functions, example_pool, example_atoms}
 
-atom_over : (left right : ℕ) → left < 2 → right < 2 → IsOver example_functions example_pool.terms (atom_on left right)
+atom_over : (left right : ℕ) → left < 3 → right < 3 → IsOver example_functions example_pool.terms (atom_on left right)
 atom_over left right h k = record {
   predicate = (one_predicate, refl, (refl, (refl, (refl, tt))), refl);
-  args = All-from_recursion (λ id. id.0 < 2) (atom_on left right).args (h, (k, tt));
+  args = All-from_recursion (λ id. id.0 < 3) (atom_on left right).args (h, (k, tt));
 }
 
 pub example_over : All (IsOver example_functions example_pool.terms) example_atoms

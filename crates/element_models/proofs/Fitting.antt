@@ -1,8 +1,8 @@
 -- The tables of elementary functions fit them, also once their rows are in order.
-use Rattle.std.proofs.Common.{◌≡◌, ℕ, suc, ◌+◌, ◌<◌, ◌≤◌, Bool, true, false, List, [], ◌∷◌, length, get_or, refl, sym, ap, subst, ◌∙◌, cond, inl, inr, arith}
-use Rattle.std.specs.Prelude.{◌⊎◌, All, Contains, replicate}
+use Rattle.std.proofs.Common.{◌≡◌, ℕ, suc, ◌+◌, ◌-◌, ◌<◌, ◌≤◌, Bool, true, false, List, [], ◌∷◌, ◌++◌, length, get_or, refl, sym, ap, subst, ◌∙◌, cond, inl, inr, arith}
+use Rattle.std.specs.Prelude.{◌⊎◌, All, Contains, replicate, slice_index}
 use Rattle.std.specs.List.{AllByRecursion, AllZip}
-use Rattle.std.proofs.lemmas.List.{length-replicate}
+use Rattle.std.proofs.lemmas.List.{length-replicate, get_or-replicate}
 use Rattle.std.proofs.lemmas.List.Elements.{All-replicate, All-contains, All-contains_itself, All-from_recursion, All-weaker, recursion_from_All}
 use Rattle.std.proofs.lemmas.Option.{get_or_from_slice_get}
 use Rattle.mbqi_values.specs.declared.value.Value.{Value}
@@ -10,18 +10,19 @@ use Rattle.mbqi_terms.specs.declared.script.Function.{Function}
 use Rattle.mbqi_terms.specs.declared.script.Script.{Script}
 use Rattle.mbqi_terms.specs.declared.sort.Sort.{Sort}
 use Rattle.mbqi_terms.specs.declared.sort.Sort.TheVariants as sort
-use Rattle.function_model.specs.Fits.{AreRows, IsRow, HaveKnots, IsShown, FitFunctions, FitsFunction, Fits}
+use Rattle.function_model.specs.Fits.{AreRows, IsRow, HaveKnots, IsShown, FitFunctions, FitHidden, FitsFunction, FitsFull}
 use Rattle.function_model.specs.Rising.{RowsRise}
 use Rattle.function_model.specs.declared.model.Row.{Row}
 use Rattle.function_model.specs.declared.model.Table.{Table}
 use Rattle.ground_form.specs.Atoms.{IsOver}
-use Rattle.ground_form.specs.Profile.{the_sort, IsConstant, IsPredicate, IsElementary, is_constant, constants_of}
+use Rattle.ground_form.specs.Profile.{the_sort, IsConstant, IsPredicate, IsElementary, is_constant}
 use Rattle.ground_form.specs.declared.atoms.GroundAtom.{GroundAtom}
-use Rattle.element_models.specs.Elements.{knots_of, constant_table, predicate_table, table_for, next_element, tables_from}
-use Rattle.element_models.specs.Filling.{IsRaised}
+use Rattle.element_models.specs.Elements.{knots_of, constant_table, predicate_table, table_for, next_element, tables_from, hidden_from}
+use Rattle.element_models.specs.Filling.{AreTables, IsRaised}
 use Rattle.element_models.specs.Rows.{rows_of}
 use Rattle.element_models.proofs.AtomRows.{all_rows}
-use Rattle.element_models.proofs.Counting.{size_of, constants_in, length_constants}
+use Rattle.element_models.proofs.Counting.{size_of, terms_of, constants_in, length_constants, length_terms}
+use Rattle.element_models.proofs.HiddenTables.{hidden_fit}
 use Rattle.element_models.proofs.Knots.{have_knots, stand}
 
 -- Rising rows, each of which is a row of a table, may be all its rows.
@@ -126,7 +127,7 @@ module _ (fit : RowsFit) where
   all_fit (sort ∷ other ∷ sorts) rows functions raised few named each wanted to = absurd (omega arith)
 
 -- the rows of atoms are rows of their predicates' tables
-pub wanted_rows : (functions : List Function) (atoms : List GroundAtom) (truths : List Bool) → All (IsOver functions (constants_of functions)) atoms
+pub wanted_rows : (functions : List Function) (atoms : List GroundAtom) (truths : List Bool) → All (IsOver functions (terms_of functions)) atoms
     → (k : ℕ) (d : Function) → k < length functions → WantedRows (rows_of atoms truths) (size_of functions) k (get_or functions k d)
 wanted_rows functions atoms truths over k d h is =
     all_rows (IsRow (size_of functions ∷ []) (knots_of (size_of functions) (get_or functions k d).args) sort.Truth) k atoms truths
@@ -137,22 +138,32 @@ wanted_rows functions atoms truths over k d h is =
     sym (get_or_from_slice_get functions atom.predicate on.predicate.0 d on.predicate.1) ∙ ap (λ f. get_or functions f d) (sym e) in
     let many : length atom.args ≡ length (get_or functions k d).args = on.predicate.3 ∙ ap (λ (f : Function). length f.args) same in
     let below = recursion_from_All (λ id. id.0 < size_of functions) atom.args
-    (All-weaker (λ id. id.0 < length (constants_of functions)) (λ id. id.0 < size_of functions)
-    (λ id h. omega (arith, h)) atom.args on.args) in
+    (All-weaker (λ id. id.0 < length (terms_of functions)) (λ id. id.0 < size_of functions)
+    (λ id h. omega (arith, h, length_terms functions)) atom.args on.args) in
     (stand (size_of functions) (get_or functions k d).args atom.args many below, (tt, tt)))
 
+-- the tables of the hidden names
+names_fit : (size : ℕ) (sorts : List (List ℕ)) → 1 ≤ size → FitHidden (replicate (length sorts) size) 0 sorts (hidden_from (size - 1) 0 (length sorts))
+names_fit size sorts some =
+    hidden_fit (replicate (length sorts) size) (size - 1) 0 sorts
+    (λ k h l. let is : slice_index (replicate (length sorts) size) k ≡ size = get_or-replicate (length sorts) k size 0 (omega arith) in omega (arith, is))
+
 -- the model of an elementary script fits it
-pub model_fits : RowsFit → (script : Script) (sizes : List ℕ) (tables : List Table) (atoms : List GroundAtom) (truths : List Bool) → IsElementary script
-    → All (IsOver script.functions (constants_of script.functions)) atoms
+pub model_fits : RowsFit → (script : Script) (sizes : List ℕ) (tables : List Table) (atoms : List GroundAtom) (truths : List Bool)
+    → IsElementary script → All (IsOver script.functions (terms_of script.functions)) atoms
     → sizes ≡ replicate (length script.sorts) (size_of script.functions)
-    → AllZip IsRaised (tables_from (rows_of atoms truths) 0 0 (size_of script.functions) script.functions) tables
-    → Fits script (record { sizes = sizes; tables = tables })
-model_fits fit script sizes tables atoms truths is over same to =
-    let P : List ℕ → Type 0 = λ ss. Fits script (record { sizes = ss; tables = tables }) in
+    → AreTables script.functions atoms truths (size_of script.functions) (length script.sorts) tables
+    → FitsFull script (record { sizes = sizes; tables = tables })
+model_fits fit script sizes tables atoms truths is over same are =
+    let P : List ℕ → Type 0 = λ ss. FitsFull script (record { sizes = ss; tables = tables }) in
     subst P (sym same)
     (record {
       sorts = length-replicate (length script.sorts) (size_of script.functions);
       sizes = All-replicate (λ size. 1 ≤ size) (length script.sorts) (size_of script.functions) (omega arith);
-      tables = all_fit fit script.sorts (rows_of atoms truths) script.functions tables is.sorts is.named is.functions
-          (wanted_rows script.functions atoms truths over) to;
+      declared = are.declared;
+      hidden = hidden_from (size_of script.functions - 1) 0 (length script.sorts);
+      tables = are.all;
+      functions = all_fit fit script.sorts (rows_of atoms truths) script.functions are.declared is.sorts is.named is.functions
+          (wanted_rows script.functions atoms truths over) are.raised;
+      names = names_fit (size_of script.functions) script.sorts (omega arith);
     })

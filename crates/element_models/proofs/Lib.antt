@@ -3,6 +3,7 @@ pub mod Counting
 pub mod Example
 pub mod Filling
 pub mod Fitting
+pub mod HiddenTables
 pub mod Knots
 pub mod Lookups
 pub mod Raising

@@ -1,13 +1,14 @@
--- The models of elementary scripts (this project's own): each constant is an element of its own, and one more element stands for
--- what has no name.
-use Rattle.std.specs.Prelude.{ℕ, zero, suc, ◌+◌, false, List, [], ◌∷◌, map, if◌then◌else◌}
+-- The models of elementary scripts (this project's own): each constant is an element of its own, and the last element is that of
+-- the seed, which stands for what has no name.
+use Rattle.std.specs.Prelude.{ℕ, pos, zero, suc, ◌+◌, false, List, [], ◌∷◌, map, if◌then◌else◌}
 use Rattle.mbqi_values.specs.declared.value.Value.{Value}
 use Rattle.mbqi_values.specs.declared.value.Value.TheVariants as value
 use Rattle.mbqi_terms.specs.declared.script.Function.{Function}
 use Rattle.mbqi_terms.specs.declared.sort.Sort.{Sort}
 use Rattle.function_model.specs.declared.model.Row.{Row}
 use Rattle.function_model.specs.declared.model.Table.{Table}
-use Rattle.function_model.specs.declared.model.TableName.TheVariants.{Declared}
+use Rattle.function_model.specs.declared.model.TableName.{TableName}
+use Rattle.function_model.specs.declared.model.TableName.TheVariants.{Declared, Seed, Far}
 use Rattle.ground_form.specs.Profile.{is_constant}
 
 -- So many elements in order, from one on.
@@ -19,8 +20,12 @@ elements_from e (suc n) = value.Elem e ∷ elements_from (e + 1) n
 abbrev pub knots_of : ℕ → List Sort → List (List Value)
 knots_of size args = map (λ arg. elements_from 0 size) args
 
+-- A table of a name without arguments.
+abbrev pub bare_table : TableName → Value → Table
+bare_table name v = record { name = name; knots = []; rows = []; default = v }
+
 abbrev pub constant_table : ℕ → ℕ → Table
-constant_table f e = record { name = Declared f; knots = []; rows = []; default = value.Elem e }
+constant_table f e = bare_table (Declared f) (value.Elem e)
 
 abbrev pub predicate_table : List Row → ℕ → ℕ → List Sort → Table
 predicate_table rows f size args = record { name = Declared f; knots = knots_of size args; rows = rows; default = value.Truth false }
@@ -43,3 +48,8 @@ tables_from rows f e size (function ∷ functions) =
 -- No predicate has a row.
 abbrev pub no_rows : ℕ → List Row
 no_rows f = []
+
+-- The tables of the hidden names: the seeds of so many sorts, from sort s on, are this element, and the far integer is 0.
+abbrev pub hidden_from : ℕ → ℕ → ℕ → List Table
+hidden_from e s zero = bare_table Far (value.Num (pos 0)) ∷ []
+hidden_from e s (suc n) = bare_table (Seed s) (value.Elem e) ∷ hidden_from e (s + 1) n

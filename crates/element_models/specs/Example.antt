@@ -2,7 +2,7 @@
 use Rattle.std.specs.Prelude.{ℕ, List, [], ◌∷◌}
 use Rattle.mbqi_terms.specs.declared.script.Function.{Function}
 use Rattle.mbqi_terms.specs.declared.sort.Sort.TheVariants as sort
-use Rattle.ground_form.specs.Profile.{constant, the_sort}
+use Rattle.ground_form.specs.Profile.{constant, seed, the_sort}
 use Rattle.ground_form.specs.declared.atoms.GroundAtom.{GroundAtom}
 use Rattle.ground_form.specs.declared.pool.Pool.{Pool}
 
@@ -16,9 +16,9 @@ abbrev pub example_functions : List Function
 example_functions = one_constant ∷ one_predicate ∷ one_constant ∷ []
 
 abbrev pub example_pool : Pool
-example_pool = record { terms = constant 0 ∷ constant 2 ∷ []; numbers = 0 ∷ 0 ∷ 1 ∷ [] }
+example_pool = record { terms = constant 0 ∷ constant 2 ∷ seed ∷ []; numbers = 0 ∷ 0 ∷ 1 ∷ [] }
 
--- The predicate of two constants, by their numbers in the pool.
+-- The predicate of two terms, by their numbers in the pool.
 abbrev pub atom_on : ℕ → ℕ → GroundAtom
 atom_on left right = record { predicate = 1; args = record { 0 = left } ∷ record { 0 = right } ∷ [] }
 

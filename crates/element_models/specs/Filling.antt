@@ -1,5 +1,6 @@
 -- Rows put into tables one after the other, and brought into order (this project's own). Private functions alone cite it.
-use Rattle.std.specs.Prelude.{◌≡◌, ◌↔◌, ℕ, zero, suc, Bool, false, List, [], ◌∷◌, ◌++◌, Contains, Some, slice_get}
+use Rattle.std.specs.Prelude.{◌≡◌, ◌↔◌, ℕ, ◌-◌, zero, suc, Bool, false, List, [], ◌∷◌, ◌++◌, Contains, Some, slice_get}
+use Rattle.std.specs.List.{AllZip}
 use Rattle.mbqi_values.specs.declared.value.Value.{Value}
 use Rattle.mbqi_terms.specs.declared.script.Function.{Function}
 use Rattle.function_model.specs.Lookup.{value_at}
@@ -8,7 +9,8 @@ use Rattle.function_model.specs.declared.model.Row.{Row}
 use Rattle.function_model.specs.declared.model.Table.{Table}
 use Rattle.ground_form.specs.Profile.{is_constant}
 use Rattle.ground_form.specs.declared.atoms.GroundAtom.{GroundAtom}
-use Rattle.element_models.specs.Rows.{row_of}
+use Rattle.element_models.specs.Elements.{tables_from, hidden_from}
+use Rattle.element_models.specs.Rows.{row_of, rows_of}
 
 -- The atom is of a function that is no constant.
 abbrev pub NamesPredicate : List Function → GroundAtom → Type 0
@@ -40,3 +42,10 @@ pub record IsRaised (given : Table) (raised : Table) : Type 0 where
   pub contains : (row : Row) → Contains raised.rows row ↔ Contains given.rows row
   pub same : (knots : List (List Value)) (args : List Value) (default : Value)
       → value_at raised.rows knots args default ≡ value_at given.rows knots args default
+
+-- The tables of a model of so many elements: those of the functions, each with its atoms' rows in order, and behind them those of
+-- the hidden names, in which the seeds of so many sorts are the last element.
+pub record AreTables (functions : List Function) (atoms : List GroundAtom) (truths : List Bool) (size sorts : ℕ) (tables : List Table) : Type 0 where
+  pub declared : List Table
+  pub raised : AllZip IsRaised (tables_from (rows_of atoms truths) 0 0 size functions) declared
+  pub all : tables ≡ declared ++ hidden_from (size - 1) 0 sorts

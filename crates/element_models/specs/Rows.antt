@@ -6,7 +6,7 @@ use Rattle.mbqi_terms.specs.declared.term_id.TermId.{TermId}
 use Rattle.function_model.specs.declared.model.Row.{Row}
 use Rattle.ground_form.specs.declared.atoms.GroundAtom.{GroundAtom}
 
--- The constant of a number in the pool is the element of that number.
+-- The term of a number in the pool is the element of that number.
 abbrev pub element_of : TermId → Value
 element_of id = value.Elem id.0
 

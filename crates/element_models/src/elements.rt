@@ -1,8 +1,8 @@
 //! The elements, and the tables of the functions over them without rows.
 
-ghost use Rattle.std.specs.Prelude.{◌≡◌, ◌+◌, length, replicate, IfOk};
+ghost use Rattle.std.specs.Prelude.{◌≡◌, ◌++◌, length, replicate, IfOk, OnOk};
 ghost use Rattle.ground_form.specs.Profile.{is_constant};
-ghost use Rattle.element_models.specs.Elements.{elements_from, knots_of, table_for, tables_from, no_rows};
+ghost use Rattle.element_models.specs.Elements.{elements_from, knots_of, bare_table, table_for, tables_from, no_rows, hidden_from};
 
 use function_model::{Rows, Table, TableName, ValueLists};
 use ground_form::Pool;
@@ -23,11 +23,11 @@ fn is_constant(function: &Function) -> bool
     matches!(function.result, Sort::Elem(_))
 }
 
-/// How many elements there are: one for each constant, and one more.
+/// How many elements there are: one for each term of the pool.
 pub fn universe_size(pool: &Pool) -> u64
-    ensures { result ≡ length pool.now.terms + 1 }
+    ensures { result ≡ length pool.now.terms }
 {
-    pool.terms.as_slice().len() as u64 + 1
+    pool.terms.as_slice().len() as u64
 }
 
 /// Every element of the universe, in order.
@@ -53,6 +53,18 @@ fn knots_of(alloc: Global, args: &[Sort], size: u64) -> Result<ValueLists, Alloc
     Ok(Sequence::from_vec(knots))
 }
 
+/// The table of a name without arguments.
+fn bare_table(alloc: Global, name: TableName, value: Value) -> Table
+    ensures { result ≡ bare_table name value }
+{
+    Table {
+        name,
+        knots: ValueLists::new(alloc),
+        rows: Rows::new(alloc),
+        default: value,
+    }
+}
+
 fn table_for(
     alloc: Global,
     number: usize,
@@ -63,19 +75,13 @@ fn table_for(
     ensures { IfOk result (λ table. table ≡ table_for no_rows number element size function.now) }
 {
     let name = TableName::Declared(number);
-    let rows = Rows::new(alloc);
     if is_constant(function) {
-        return Ok(Table {
-            name,
-            knots: ValueLists::new(alloc),
-            rows,
-            default: Value::Elem(element),
-        });
+        return Ok(bare_table(alloc, name, Value::Elem(element)));
     }
     Ok(Table {
         name,
         knots: knots_of(alloc, function.args.as_slice(), size)?,
-        rows,
+        rows: Rows::new(alloc),
         default: Value::Truth(false),
     })
 }
@@ -97,4 +103,22 @@ pub fn element_tables(
         }
     }
     Ok(tables)
+}
+
+/// Adds the tables of the hidden names behind those of the functions: the seed of each sort is the given element, and the far
+/// integer is 0.
+#[tactic(auto, using(crate::proofs::HiddenTables::hidden_next))]
+pub fn push_hidden(
+    alloc: Global,
+    tables: &mut Vec<Table>,
+    sorts: usize,
+    seed: u64,
+) -> Result<(), AllocError>
+    ensures { OnOk result (tables.new.items ≡ tables.old.items ++ hidden_from seed 0 sorts) }
+{
+    for sort in 0..sorts {
+        tables.push(bare_table(alloc, TableName::Seed(sort), Value::Elem(seed)))?;
+    }
+    tables.push(bare_table(alloc, TableName::Far, Value::Num(0)))?;
+    Ok(())
 }

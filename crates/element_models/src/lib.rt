@@ -1,4 +1,4 @@
-//! Models of elementary scripts: each constant is an element of its own, and ground atoms have given truths.
+//! Full models of elementary scripts: each ground term is an element of its own, and ground atoms have given truths.
 //!
 //! Start with [`element_model`].
 

@@ -13,7 +13,7 @@ use mbqi_values::{Sequence, Value};
 use std::alloc::{AllocError, Global};
 use std::mem;
 
-/// The constant of a number in the pool is the element of that number.
+/// The term of a number in the pool is the element of that number.
 fn element_of(id: TermId) -> Value
     ensures { result ≡ element_of id }
 {

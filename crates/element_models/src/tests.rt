@@ -63,6 +63,7 @@ fn pool(alloc: Global) -> Result<Pool, AllocError>
     let mut terms = Terms::new(alloc);
     terms.push(Term::Apply(Symbol::Declared(0), Terms::new(alloc)))?;
     terms.push(Term::Apply(Symbol::Declared(2), Terms::new(alloc)))?;
+    terms.push(Term::Apply(Symbol::Seed(0), Terms::new(alloc)))?;
     Ok(Pool {
         terms,
         numbers: Numbers::from_slice(alloc, &[0, 0, 1])?,
@@ -96,12 +97,13 @@ fn each_constant_is_an_element_and_each_atom_a_row(rt: HostRuntime) -> Result<()
     let model = element_model(alloc, &script, &pool, atoms.as_slice(), &[true, false])?;
     assert_eq!(rt; model.sizes.as_slice(), [3].as_slice());
     let tables = model.tables.as_slice();
-    assert!(rt; tables.len() == 3);
+    assert!(rt; tables.len() == 5);
     assert!(rt;
         tables[0].look_up(&[]) == Value::Elem(0),
         "the first constant"
     );
     assert!(rt; tables[2].look_up(&[]) == Value::Elem(1), "the second one");
+    assert!(rt; tables[3].look_up(&[]) == Value::Elem(2), "the seed");
     assert!(rt; tables[1].rows.len() == 2, "a row for each atom");
     for (left, right, truth) in [(0, 0, false), (1, 0, true), (0, 1, false), (2, 0, false)] {
         let value = tables[1].look_up(&[Value::Elem(left), Value::Elem(right)]);
