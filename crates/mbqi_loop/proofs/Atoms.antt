@@ -19,7 +19,6 @@ use Rattle.function_model.specs.ValueOf.{Point, value_of}
 use Rattle.function_model.specs.declared.model.FunctionModel.{FunctionModel}
 use Rattle.function_model.specs.declared.model.Row.{Row}
 use Rattle.function_model.specs.declared.model.Table.{Table}
-use Rattle.function_model.specs.declared.model.TableName.TheVariants.{Declared}
 use Rattle.ground_form.specs.Profile.{IsAtom}
 use Rattle.std.proofs.Common.{arith, cond}
 
