@@ -1,6 +1,6 @@
 -- What the reader reads has the declarations of the first profile.
-use Rattle.std.proofs.Common.{◌≡◌, ℕ, ◌≤◌, Bool, true, false, ◌&&◌, cond, List, [], ◌∷◌, ◌++◌, length, map, refl, sym, subst, arith, inl, inr}
-use Rattle.std.specs.Prelude.{◌⊎◌, Option, None, Some, Result, Ok, Err, IfOk, if◌then◌else◌, codes}
+use Rattle.std.proofs.Common.{◌≡◌, ℕ, ◌≤◌, Bool, true, false, ◌&&◌, List, [], ◌∷◌, ◌++◌, length, map, refl, sym, subst, arith, inl, inr}
+use Rattle.std.specs.Prelude.{◌⊎◌, None, Some, Result, Ok, Err, IfOk, if◌then◌else◌, codes}
 use Rattle.std.specs.List.{AllByRecursion}
 use Rattle.std.specs.Option.{option_and_then}
 use Rattle.std.proofs.lemmas.Option.{option_and_then_some}
@@ -8,16 +8,16 @@ use Rattle.sexpr_text.specs.declared.tree.Sexpr.{Sexpr}
 use Rattle.mbqi_terms.specs.declared.script.Function.{Function}
 use Rattle.mbqi_terms.specs.declared.script.Script.{Script}
 use Rattle.mbqi_terms.specs.declared.sort.Sort.{Sort}
-use Rattle.first_profile.specs.Assertions.{clause_of}
-use Rattle.first_profile.specs.Profile.{is_empty, names_sort, are_sorts, new_name, declared_constant, declared_predicate, with_function, with_sort, with_constant, with_arguments, with_predicate, with_formula, with_assertion, with_question, by_word, by_parts, after_command, after_commands, empty_script, meaning_of}
-use Rattle.first_profile.specs.Tree.{is_symbol, is_zero, parts_of}
-use Rattle.first_profile.proofs.Clauses.{chosen, mapped, clause_read, clause_stays}
+use Rattle.first_profile.specs.Assertions.{rule_of}
+use Rattle.first_profile.specs.Profile.{is_empty, are_sorts, new_name, declared_constant, declared_predicate, with_function, with_sort, with_constant, with_arguments, with_predicate, with_formula, with_assertion, with_question, by_word, by_parts, after_command, after_commands, empty_script, meaning_of}
+use Rattle.first_profile.specs.Tree.{is_symbol, is_zero, names_sort, parts_of}
+use Rattle.first_profile.proofs.Clauses.{chosen, mapped, rule_read, rule_stays}
 use Rattle.mbqi_terms.specs.declared.formula.Formula.{Formula}
 use Rattle.mbqi_terms.specs.declared.script.Assertion.{Assertion}
 use Rattle.first_profile.specs.Reads.{Reads}
 use Rattle.mbqi_values.specs.declared.fault.ReadError.{ReadError}
 use Rattle.mbqi_values.specs.declared.fault.ReadError.TheVariants.{Refused, Memory}
-use Rattle.ground_form.specs.Profile.{the_sort, IsConstant, IsPredicate, IsClause, IsElementary}
+use Rattle.ground_form.specs.Profile.{the_sort, IsConstant, IsPredicate, IsRule, IsElementary}
 
 first : (a b : Bool) → (a && b) ≡ true → a ≡ true
 first true b h = refl
@@ -51,10 +51,10 @@ no_sorts [] [] h e = cc
 no_sorts [] (arg ∷ args) h e = cc
 no_sorts (sort ∷ sorts) args h e = cc
 
-all_stay : (functions new : List Function) (assertions : List Assertion) → AllByRecursion (λ assertion. IsClause functions assertion.formula) assertions
-    → AllByRecursion (λ assertion. IsClause (functions ++ new) assertion.formula) assertions
+all_stay : (functions new : List Function) (assertions : List Assertion) → AllByRecursion (λ assertion. IsRule functions assertion.formula) assertions
+    → AllByRecursion (λ assertion. IsRule (functions ++ new) assertion.formula) assertions
 all_stay functions new [] all = tt
-all_stay functions new (assertion ∷ assertions) all = (clause_stays functions new assertion.formula all.0, all_stay functions new assertions all.1)
+all_stay functions new (assertion ∷ assertions) all = (rule_stays functions new assertion.formula all.0, all_stay functions new assertions all.1)
 
 with_one_more : (script : Script) (function : Function) → IsElementary script → (script.sorts ≡ [] → ⊥) → IsConstant function ⊎ IsPredicate function
     → IsElementary (with_function script function)
@@ -118,19 +118,19 @@ sort_taken script (name ∷ arity ∷ []) next is h =
     (λ b missing. none next missing)
 sort_taken script (name ∷ arity ∷ more ∷ parts) next is h = none next h
 
-one_more_clause : (script : Script) (f : Formula) → IsElementary script → IsClause script.functions f → IsElementary (with_formula script f)
-one_more_clause script f is clause = record {
+one_more_rule : (script : Script) (f : Formula) → IsElementary script → IsRule script.functions f → IsElementary (with_formula script f)
+one_more_rule script f is rule = record {
   sorts = is.sorts;
   named = is.named;
   functions = is.functions;
-  assertions = more (λ assertion. IsClause script.functions assertion.formula) script.assertions (record { label = None; formula = f }) is.assertions clause;
+  assertions = more (λ assertion. IsRule script.functions assertion.formula) script.assertions (record { label = None; formula = f }) is.assertions rule;
 }
 
 assertion_taken : (script : Script) (parts : List Sexpr) (next : Script) → IsElementary script → with_assertion script parts ≡ Some next → IsElementary next
 assertion_taken script [] next is h = none next h
 assertion_taken script (tree ∷ []) next is h =
-    mapped (with_formula script) (clause_of script.functions tree) next h
-    (λ f e made. subst IsElementary made (one_more_clause script f is (clause_read script.functions tree f is.functions e)))
+    mapped (with_formula script) (rule_of script.sorts script.functions tree) next h
+    (λ f e made. subst IsElementary made (one_more_rule script f is (rule_read script.sorts script.functions tree f is.functions e)))
 assertion_taken script (tree ∷ other ∷ parts) next is h = none next h
 
 question_taken : (script : Script) (parts : List Sexpr) (next : Script) → IsElementary script → with_question script parts ≡ Some next → IsElementary next

@@ -1,5 +1,7 @@
 pub mod Tree
-pub mod Profile
+pub mod Names
+pub mod Binders
 pub mod Assertions
+pub mod Profile
 pub mod Means
 pub mod Reads

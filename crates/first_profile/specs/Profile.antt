@@ -1,39 +1,19 @@
-use Rattle.std.specs.Prelude.{ℕ, ◌==◌, ◌&&◌, ◌||◌, Bool, true, false, not, List, [], ◌∷◌, ◌++◌, map, Option, None, Some, codes, if◌then◌else◌}
+use Rattle.std.specs.Prelude.{ℕ, ◌&&◌, ◌||◌, Bool, true, false, not, List, [], ◌∷◌, ◌++◌, map, Option, None, Some, codes, if◌then◌else◌}
 use Rattle.std.specs.List.{list_all, list_any}
 use Rattle.std.specs.Option.{option_and_then, option_map}
-use Rattle.std.specs.Char.{is_ascii_digit}
 use Rattle.std.specs.Str.{bytes_eq}
-use Rattle.sexpr_text.specs.Bytes.{is_symbol_byte}
 use Rattle.sexpr_text.specs.declared.tree.Sexpr.{Sexpr}
 use Rattle.ground_form.specs.Profile.{the_sort}
-use Rattle.first_profile.specs.Assertions.{clause_of}
-use Rattle.first_profile.specs.Tree.{word_of, parts_of, is_zero, is_symbol}
+use Rattle.first_profile.specs.Assertions.{rule_of}
+use Rattle.first_profile.specs.Names.{is_name}
+use Rattle.first_profile.specs.Tree.{word_of, parts_of, is_zero, is_symbol, names_sort}
 use Rattle.mbqi_terms.specs.declared.formula.Formula.{Formula}
-use Rattle.first_profile.specs.declared.names.TheConstants.{RESERVED_WORDS}
 use Rattle.mbqi_terms.specs.declared.script.Function.{Function}
 use Rattle.mbqi_terms.specs.declared.script.Script.{Script}
 use Rattle.mbqi_terms.specs.declared.sort.Sort.TheVariants as sort
 
--- The first profile of scripts (this project's own, inside SMT-LIB 2.6): one sort, its constants, and predicates
--- over it.
-
--- A symbol that may be written without bars.
-abbrev pub is_simple : List ℕ → Bool
-is_simple [] = false
-is_simple (b ∷ bs) = not (is_ascii_digit b) && list_all is_symbol_byte (b ∷ bs)
-
--- Names that begin with `@` or `.` belong to solvers (SMT-LIB 2.6, section 3.1).
-abbrev pub is_for_solvers : List ℕ → Bool
-is_for_solvers [] = false
-is_for_solvers (b ∷ bs) = b == 64 || b == 46
-
--- One of the words that no declaration may name.
-abbrev pub is_reserved : List ℕ → Bool
-is_reserved word = list_any (λ reserved. bytes_eq word reserved.now) RESERVED_WORDS
-
--- A word that a declaration may name.
-abbrev pub is_name : List ℕ → Bool
-is_name word = is_simple word && not (is_for_solvers word) && not (is_reserved word)
+-- The first profile of scripts (this project's own, inside SMT-LIB 2.6): one sort, its constants, predicates over it, and
+-- assertions that are clauses, or clauses for all values of their variables.
 
 -- Whether the script has declared the name.
 abbrev pub is_declared : Script → List ℕ → Bool
@@ -46,11 +26,6 @@ if_new script word = if is_name word && not (is_declared script word) then Some 
 
 unfoldable pub new_name : Script → Sexpr → Option (List ℕ)
 new_name script tree = option_and_then (if_new script) (word_of tree)
-
--- A tree that names the script's sort.
-abbrev pub names_sort : List (List ℕ) → Sexpr → Bool
-names_sort [] tree = false
-names_sort (name ∷ names) tree = is_symbol name tree
 
 abbrev pub with_function : Script → Function → Script
 with_function script function = record script { functions = script.functions ++ function ∷ [] }
@@ -98,12 +73,12 @@ with_predicate script (name ∷ args ∷ result ∷ []) =
     if is_symbol (codes "Bool") result then option_and_then (with_arguments script name) (parts_of args) else None
 with_predicate script parts = None
 
--- `(assert m)`.
+-- `(assert m)`, or `(assert (forall (b ...) m))`.
 abbrev pub with_formula : Script → Formula → Script
 with_formula script f = record script { assertions = script.assertions ++ record { label = None; formula = f } ∷ [] }
 
 abbrev pub with_assertion : Script → List Sexpr → Option Script
-with_assertion script (tree ∷ []) = option_map (with_formula script) (clause_of script.functions tree)
+with_assertion script (tree ∷ []) = option_map (with_formula script) (rule_of script.sorts script.functions tree)
 with_assertion script parts = None
 
 -- `(check-sat)`.

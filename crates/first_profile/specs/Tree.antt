@@ -1,4 +1,4 @@
-use Rattle.std.specs.Prelude.{ℕ, Bool, false, List, Option, None, Some, codes}
+use Rattle.std.specs.Prelude.{ℕ, Bool, false, List, [], ◌∷◌, Option, None, Some, codes}
 use Rattle.std.specs.Str.{bytes_eq}
 use Rattle.sexpr_text.specs.declared.tree.Sexpr.{Sexpr}
 use Rattle.sexpr_text.specs.declared.tree.Sexpr.TheOpen.{Sexpr-F}
@@ -54,3 +54,8 @@ is_word word (Some other) = bytes_eq other word
 
 abbrev pub is_symbol : List ℕ → Sexpr → Bool
 is_symbol word tree = is_word word (word_of tree)
+
+-- A tree that names the script's sort.
+abbrev pub names_sort : List (List ℕ) → Sexpr → Bool
+names_sort [] tree = false
+names_sort (name ∷ names) tree = is_symbol name tree

@@ -1,15 +1,16 @@
-//! The reader of assertions: literals and disjunctions of literals over constants.
+//! The reader of assertions: literals and disjunctions of literals, over constants or below a quantifier.
 
 ghost use Rattle.std.specs.Prelude.{◌≡◌, ◌++◌, ◌∷◌, [], List, ℕ, length, OnOk};
-ghost use Rattle.first_profile.specs.Assertions.{number_from, number_of, if_constant, if_predicate, constant_of, constants_of, applied, atom_of_parts, atom_of, negated, literal_of_parts, literal_of, literals_of, disjunction_of, clause_of_parts, clause_of};
+ghost use Rattle.first_profile.specs.Assertions.{number_from, number_of, is_some_constant, is_some_predicate, constant_of, argument_of, arguments_of, head_of, applied, atom_of_parts, atom_of, negated, literal_of_parts, literal_of, literals_of, disjunction_of, clause_of_parts, clause_of, quantified, quantified_by_parts, rule_of_parts, rule_of};
 ghost use Rattle.first_profile.specs.Reads.{Reads};
 ghost use Rattle.ground_form.specs.Profile.{is_constant, constant};
 ghost use Rattle.std.specs.Prelude.{slice_get, IfOk};
 
+use crate::binders::{binders_of, place_of, variables_of};
 use crate::reader::outside;
 use crate::tree::{is_symbol, parts_of, word_of};
 use mbqi_terms::{Formula, Formulas, Function, Sort, Symbol, Term, Terms};
-use mbqi_values::ReadError;
+use mbqi_values::{ReadError, Text};
 use sexpr_text::Sexpr;
 use sqlite_items::{Boxed, Items};
 use std::alloc::{AllocError, Global};
@@ -39,8 +40,9 @@ fn is_constant(function: &Function) -> bool
     matches!(function.result, Sort::Elem(_))
 }
 
-fn if_constant(functions: &[Function], number: usize) -> bool
-    ensures { result ≡ if_constant (slice_get functions.now number) }
+/// Whether the number is that of a constant.
+fn is_constant_at(functions: &[Function], number: usize) -> bool
+    ensures { result ≡ is_some_constant (slice_get functions.now number) }
 {
     match functions.get(number) {
         Some(function) => is_constant(function),
@@ -48,8 +50,9 @@ fn if_constant(functions: &[Function], number: usize) -> bool
     }
 }
 
-fn if_predicate(functions: &[Function], number: usize, args: usize) -> bool
-    ensures { result ≡ if_predicate args (slice_get functions.now number) }
+/// Whether the number is that of a predicate of so many arguments.
+fn is_predicate_at(functions: &[Function], number: usize, args: usize) -> bool
+    ensures { result ≡ is_some_predicate args (slice_get functions.now number) }
 {
     match functions.get(number) {
         Some(function) => !is_constant(function) && args == function.args.len(),
@@ -63,71 +66,119 @@ fn constant_of(alloc: Global, functions: &[Function], tree: &Sexpr) -> Result<Te
     ensures { Reads result (constant_of functions.now tree.now) }
 {
     match number_of(functions, tree) {
-        Some(number) if if_constant(functions, number) => {
+        Some(number) if is_constant_at(functions, number) => {
             Ok(Term::Apply(Symbol::Declared(number), Terms::new(alloc)))
         }
         _ => Err(ReadError::Refused(outside())),
     }
 }
 
-/// The constants that the trees name, one each.
-fn constants_of(alloc: Global, functions: &[Function], trees: &[Sexpr]) -> Result<Terms, ReadError>
-    ensures { Reads result (constants_of functions.now trees.now) }
+/// The variable or else the constant that a tree names.
+#[tactic(auto, unfolding(crate::specs::Assertions::argument_of))]
+fn argument_of(
+    alloc: Global,
+    functions: &[Function],
+    variables: &[Text],
+    tree: &Sexpr,
+) -> Result<Term, ReadError>
+    ensures { Reads result (argument_of functions.now variables.now tree.now) }
 {
-    let mut constants = Items::new(alloc);
-    for tree in trees {
-        constants.push(constant_of(alloc, functions, tree)?)?;
+    match place_of(variables, tree) {
+        Some(place) => Ok(Term::Var(place)),
+        None => constant_of(alloc, functions, tree),
     }
-    Ok(constants)
 }
 
-/// A predicate of as many constants as it takes.
+/// The arguments that the trees name, one each.
+fn arguments_of(
+    alloc: Global,
+    functions: &[Function],
+    variables: &[Text],
+    trees: &[Sexpr],
+) -> Result<Terms, ReadError>
+    ensures { Reads result (arguments_of functions.now variables.now trees.now) }
+{
+    let mut arguments = Items::new(alloc);
+    for tree in trees {
+        arguments.push(argument_of(alloc, functions, variables, tree)?)?;
+    }
+    Ok(arguments)
+}
+
+/// The number of the function that a tree names at the head of an atom: none where the name is a variable's.
+#[tactic(auto, unfolding(crate::specs::Assertions::head_of))]
+fn head_of(functions: &[Function], variables: &[Text], tree: &Sexpr) -> Option<usize>
+    ensures { result ≡ head_of functions.now variables.now tree.now }
+{
+    match place_of(variables, tree) {
+        Some(_) => None,
+        None => number_of(functions, tree),
+    }
+}
+
+/// A predicate of as many arguments as it takes.
 #[tactic(auto, unfolding(crate::specs::Assertions::atom_of_parts))]
-fn atom_of_parts(alloc: Global, functions: &[Function], parts: &[Sexpr]) -> Result<Term, ReadError>
-    ensures { Reads result (atom_of_parts functions.now parts.now) }
+fn atom_of_parts(
+    alloc: Global,
+    functions: &[Function],
+    variables: &[Text],
+    parts: &[Sexpr],
+) -> Result<Term, ReadError>
+    ensures { Reads result (atom_of_parts functions.now variables.now parts.now) }
 {
     match parts {
-        [head, args @ ..] => match number_of(functions, head) {
-            Some(number) => applied(alloc, functions, args, number),
+        [head, args @ ..] => match head_of(functions, variables, head) {
+            Some(number) => applied(alloc, functions, variables, args, number),
             None => Err(ReadError::Refused(outside())),
         },
         [] => Err(ReadError::Refused(outside())),
     }
 }
 
-/// The predicate of a number of constants.
+/// The predicate of a number, of arguments.
 fn applied(
     alloc: Global,
     functions: &[Function],
+    variables: &[Text],
     args: &[Sexpr],
     number: usize,
 ) -> Result<Term, ReadError>
-    ensures { Reads result (applied functions.now args.now number) }
+    ensures { Reads result (applied functions.now variables.now args.now number) }
 {
-    if !if_predicate(functions, number, args.len()) {
+    if !is_predicate_at(functions, number, args.len()) {
         return Err(ReadError::Refused(outside()));
     }
-    let args = constants_of(alloc, functions, args)?;
+    let args = arguments_of(alloc, functions, variables, args)?;
     Ok(Term::Apply(Symbol::Declared(number), args))
 }
 
 #[tactic(auto, unfolding(crate::specs::Assertions::atom_of))]
-fn atom_of(alloc: Global, functions: &[Function], tree: &Sexpr) -> Result<Term, ReadError>
-    ensures { Reads result (atom_of functions.now tree.now) }
+fn atom_of(
+    alloc: Global,
+    functions: &[Function],
+    variables: &[Text],
+    tree: &Sexpr,
+) -> Result<Term, ReadError>
+    ensures { Reads result (atom_of functions.now variables.now tree.now) }
 {
     match parts_of(tree) {
-        Some(parts) => atom_of_parts(alloc, functions, parts),
+        Some(parts) => atom_of_parts(alloc, functions, variables, parts),
         None => Err(ReadError::Refused(outside())),
     }
 }
 
 /// The negation of the one part, an atom.
-fn negated(alloc: Global, functions: &[Function], parts: &[Sexpr]) -> Result<Formula, ReadError>
-    ensures { Reads result (negated functions.now parts.now) }
+fn negated(
+    alloc: Global,
+    functions: &[Function],
+    variables: &[Text],
+    parts: &[Sexpr],
+) -> Result<Formula, ReadError>
+    ensures { Reads result (negated functions.now variables.now parts.now) }
 {
     match parts {
         [tree] => {
-            let atom = Formula::Atom(atom_of(alloc, functions, tree)?);
+            let atom = Formula::Atom(atom_of(alloc, functions, variables, tree)?);
             Ok(Formula::Not(Boxed::new(alloc, atom)?))
         }
         _ => Err(ReadError::Refused(outside())),
@@ -139,23 +190,29 @@ fn negated(alloc: Global, functions: &[Function], parts: &[Sexpr]) -> Result<For
 fn literal_of_parts(
     alloc: Global,
     functions: &[Function],
+    variables: &[Text],
     parts: &[Sexpr],
 ) -> Result<Formula, ReadError>
-    ensures { Reads result (literal_of_parts functions.now parts.now) }
+    ensures { Reads result (literal_of_parts functions.now variables.now parts.now) }
 {
     match parts {
         [] => Err(ReadError::Refused(outside())),
-        [head, args @ ..] if is_symbol(head, b"not") => negated(alloc, functions, args),
-        _ => Ok(Formula::Atom(atom_of_parts(alloc, functions, parts)?)),
+        [head, args @ ..] if is_symbol(head, b"not") => negated(alloc, functions, variables, args),
+        _ => Ok(Formula::Atom(atom_of_parts(alloc, functions, variables, parts)?)),
     }
 }
 
 #[tactic(auto, unfolding(crate::specs::Assertions::literal_of))]
-fn literal_of(alloc: Global, functions: &[Function], tree: &Sexpr) -> Result<Formula, ReadError>
-    ensures { Reads result (literal_of functions.now tree.now) }
+fn literal_of(
+    alloc: Global,
+    functions: &[Function],
+    variables: &[Text],
+    tree: &Sexpr,
+) -> Result<Formula, ReadError>
+    ensures { Reads result (literal_of functions.now variables.now tree.now) }
 {
     match parts_of(tree) {
-        Some(parts) => literal_of_parts(alloc, functions, parts),
+        Some(parts) => literal_of_parts(alloc, functions, variables, parts),
         None => Err(ReadError::Refused(outside())),
     }
 }
@@ -163,13 +220,14 @@ fn literal_of(alloc: Global, functions: &[Function], tree: &Sexpr) -> Result<For
 fn literals_of(
     alloc: Global,
     functions: &[Function],
+    variables: &[Text],
     trees: &[Sexpr],
 ) -> Result<Formulas, ReadError>
-    ensures { Reads result (literals_of functions.now trees.now) }
+    ensures { Reads result (literals_of functions.now variables.now trees.now) }
 {
     let mut literals = Items::new(alloc);
     for tree in trees {
-        literals.push(literal_of(alloc, functions, tree)?)?;
+        literals.push(literal_of(alloc, functions, variables, tree)?)?;
     }
     Ok(literals)
 }
@@ -178,23 +236,29 @@ fn literals_of(
 fn disjunction_of(
     alloc: Global,
     functions: &[Function],
+    variables: &[Text],
     parts: &[Sexpr],
 ) -> Result<Formula, ReadError>
-    ensures { Reads result (disjunction_of functions.now parts.now) }
+    ensures { Reads result (disjunction_of functions.now variables.now parts.now) }
 {
     match parts {
-        [_, _, ..] => Ok(Formula::Any(literals_of(alloc, functions, parts)?)),
+        [_, _, ..] => Ok(Formula::Any(literals_of(alloc, functions, variables, parts)?)),
         _ => Err(ReadError::Refused(outside())),
     }
 }
 
 /// A literal or a disjunction of literals.
 #[tactic(auto, unfolding(crate::specs::Assertions::clause_of))]
-pub fn clause_of(alloc: Global, functions: &[Function], tree: &Sexpr) -> Result<Formula, ReadError>
-    ensures { Reads result (clause_of functions.now tree.now) }
+fn clause_of(
+    alloc: Global,
+    functions: &[Function],
+    variables: &[Text],
+    tree: &Sexpr,
+) -> Result<Formula, ReadError>
+    ensures { Reads result (clause_of functions.now variables.now tree.now) }
 {
     match parts_of(tree) {
-        Some(parts) => clause_of_parts(alloc, functions, parts),
+        Some(parts) => clause_of_parts(alloc, functions, variables, parts),
         None => Err(ReadError::Refused(outside())),
     }
 }
@@ -202,15 +266,80 @@ pub fn clause_of(alloc: Global, functions: &[Function], tree: &Sexpr) -> Result<
 fn clause_of_parts(
     alloc: Global,
     functions: &[Function],
+    variables: &[Text],
     parts: &[Sexpr],
 ) -> Result<Formula, ReadError>
-    ensures { Reads result (clause_of_parts functions.now parts.now) }
+    ensures { Reads result (clause_of_parts functions.now variables.now parts.now) }
 {
     match parts {
         [] => Err(ReadError::Refused(outside())),
-        [head, literals @ ..] if is_symbol(head, b"or") => disjunction_of(
-            alloc, functions, literals,
-        ),
-        _ => literal_of_parts(alloc, functions, parts),
+        [head, literals @ ..] if is_symbol(head, b"or") => {
+            disjunction_of(alloc, functions, variables, literals)
+        }
+        _ => literal_of_parts(alloc, functions, variables, parts),
+    }
+}
+
+/// A clause for all values of its variables.
+fn quantified(
+    alloc: Global,
+    functions: &[Function],
+    variables: &[Text],
+    tree: &Sexpr,
+) -> Result<Formula, ReadError>
+    ensures { Reads result (quantified functions.now tree.now variables.now) }
+{
+    let clause = clause_of(alloc, functions, variables, tree)?;
+    let binders = binders_of(alloc, variables)?;
+    Ok(Formula::Forall(binders, Boxed::new(alloc, clause)?))
+}
+
+fn quantified_by_parts(
+    alloc: Global,
+    sorts: &[Text],
+    functions: &[Function],
+    parts: &[Sexpr],
+) -> Result<Formula, ReadError>
+    ensures { Reads result (quantified_by_parts sorts.now functions.now parts.now) }
+{
+    match parts {
+        [binders, tree] => {
+            let variables = variables_of(alloc, sorts, binders)?;
+            quantified(alloc, functions, variables.as_slice(), tree)
+        }
+        _ => Err(ReadError::Refused(outside())),
+    }
+}
+
+fn rule_of_parts(
+    alloc: Global,
+    sorts: &[Text],
+    functions: &[Function],
+    parts: &[Sexpr],
+) -> Result<Formula, ReadError>
+    ensures { Reads result (rule_of_parts sorts.now functions.now parts.now) }
+{
+    match parts {
+        [] => Err(ReadError::Refused(outside())),
+        [head, parts @ ..] if is_symbol(head, b"forall") => {
+            quantified_by_parts(alloc, sorts, functions, parts)
+        }
+        _ => clause_of_parts(alloc, functions, &[], parts),
+    }
+}
+
+/// A clause without variables, or a clause for all values of its variables.
+#[tactic(auto, unfolding(crate::specs::Assertions::rule_of))]
+pub fn rule_of(
+    alloc: Global,
+    sorts: &[Text],
+    functions: &[Function],
+    tree: &Sexpr,
+) -> Result<Formula, ReadError>
+    ensures { Reads result (rule_of sorts.now functions.now tree.now) }
+{
+    match parts_of(tree) {
+        Some(parts) => rule_of_parts(alloc, sorts, functions, parts),
+        None => Err(ReadError::Refused(outside())),
     }
 }

@@ -1,13 +1,13 @@
-//! Which words a declaration may name.
+//! Which words a declaration or a binder may name.
 
 ghost use Rattle.std.specs.Prelude.{◌≡◌};
 ghost use Rattle.std.specs.List.{list_all, list_any};
 ghost use Rattle.std.specs.Str.{bytes_eq};
 ghost use Rattle.sexpr_text.specs.Bytes.{is_symbol_byte};
-ghost use Rattle.first_profile.specs.Profile.{is_simple, is_for_solvers, is_reserved, is_name};
+ghost use Rattle.first_profile.specs.Names.{is_simple, is_for_solvers, is_reserved, is_name};
 
-/// The words that no declaration may name: SMT-LIB 2.6's reserved words, its commands, and the symbols of the
-/// theories Core, Ints and ArraysEx.
+/// The words that no declaration and no binder may name: SMT-LIB 2.6's reserved words, its commands, and the symbols of
+/// the theories Core, Ints and ArraysEx.
 pub const RESERVED_WORDS: [&str; 61] = [
     "_",
     "!",
@@ -113,8 +113,8 @@ fn is_among(names: &[&str], word: &[u8]) -> bool
     names.iter().any(|name| word == name.as_bytes())
 }
 
-/// Whether a declaration may name the word: a simple symbol that is no reserved word and doesn't begin with `@`
-/// or `.`.
+/// Whether a declaration or a binder may name the word: a simple symbol that is no reserved word and doesn't begin with
+/// `@` or `.`.
 pub fn is_name(word: &[u8]) -> bool
     ensures { result ≡ is_name word.now }
 {

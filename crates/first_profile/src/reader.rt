@@ -3,16 +3,17 @@
 ghost use Rattle.std.specs.Prelude.{◌≡◌, ℕ, List, IfOk, map};
 ghost use Rattle.std.specs.List.{list_all, list_any};
 ghost use Rattle.std.specs.Str.{bytes_eq};
-ghost use Rattle.first_profile.specs.Profile.{is_declared, new_name, names_sort, are_sorts, with_sort, with_constant, with_predicate, with_arguments, with_question, by_word, by_parts, after_command, declared_predicate, with_assertion, meaning_of};
+ghost use Rattle.first_profile.specs.Tree.{names_sort};
+ghost use Rattle.first_profile.specs.Profile.{is_declared, new_name, are_sorts, with_sort, with_constant, with_predicate, with_arguments, with_question, by_word, by_parts, after_command, declared_predicate, with_assertion, meaning_of};
 ghost use Rattle.sexpr_text.specs.Forms.{IfRefused};
 ghost use Rattle.mbqi_terms.specs.declared.script.Script.{Script};
 ghost use Rattle.ground_form.specs.Profile.{IsElementary, the_sort};
 ghost use Rattle.first_profile.specs.Means.{Means, Refused, IsOutside, trees_of};
 ghost use Rattle.first_profile.specs.Reads.{Reads, Takes, outside};
 
-use crate::assertions::clause_of;
+use crate::assertions::rule_of;
 use crate::names::is_name;
-use crate::tree::{is_symbol, is_zero, parts_of, word_of};
+use crate::tree::{is_symbol, is_zero, names_sort, parts_of, word_of};
 use mbqi_terms::{Assertion, Assertions, Function, Functions, Script, Sort, Sorts};
 use mbqi_values::{FaultKind, ReadError, Refusal, Text, Texts};
 use sexpr_text::laws::one_answer;
@@ -59,8 +60,8 @@ fn read_commands(alloc: Global, forms: &[Form]) -> Result<Script, ReadError>
     Ok(script)
 }
 
-/// The sort that constants and arguments have.
-const THE_SORT: Sort = Sort::Elem(0);
+/// The sort that constants, arguments and variables have.
+pub const THE_SORT: Sort = Sort::Elem(0);
 
 /// A file outside the first profile is refused at its start.
 pub fn outside() -> Refusal
@@ -102,16 +103,6 @@ fn new_name(alloc: Global, script: &Script, tree: &Sexpr) -> Result<Text, ReadEr
             alloc, word,
         )?),
         _ => Err(ReadError::Refused(outside())),
-    }
-}
-
-/// Whether the tree names the script's sort.
-fn names_sort(sorts: &[Text], tree: &Sexpr) -> bool
-    ensures { result ≡ names_sort sorts.now tree.now }
-{
-    match sorts {
-        [] => false,
-        [name, ..] => is_symbol(tree, name.as_slice()),
     }
 }
 
@@ -207,13 +198,18 @@ fn take_predicate(alloc: Global, script: &mut Script, parts: &[Sexpr]) -> Result
     }
 }
 
-/// `(assert m)`.
+/// `(assert m)`, or `(assert (forall ((x s) ...) m))`.
 fn take_assertion(alloc: Global, script: &mut Script, parts: &[Sexpr]) -> Result<(), ReadError>
     ensures { Takes result (with_assertion script.old parts.now) script.new }
 {
     match parts {
         [tree] => {
-            let formula = clause_of(alloc, script.functions.as_slice(), tree)?;
+            let formula = rule_of(
+                alloc,
+                script.sorts.as_slice(),
+                script.functions.as_slice(),
+                tree,
+            )?;
             script.assertions.push(Assertion {
                 label: None,
                 formula,

@@ -1,8 +1,9 @@
 //! Views of a tree of the reader: the word of a symbol and the parts of a list.
 
 ghost use Rattle.std.specs.Prelude.{◌≡◌, None, Some, MatchOption};
-ghost use Rattle.first_profile.specs.Tree.{word_of, parts_of, is_zero, is_symbol};
+ghost use Rattle.first_profile.specs.Tree.{word_of, parts_of, is_zero, is_symbol, names_sort};
 
+use mbqi_values::Text;
 use sexpr_text::Sexpr;
 
 /// The word of a tree that is a symbol.
@@ -42,5 +43,15 @@ pub fn is_symbol(tree: &Sexpr, word: &[u8]) -> bool
     match word_of(tree) {
         Some(other) => other == word,
         None => false,
+    }
+}
+
+/// Whether the tree names the script's sort.
+pub fn names_sort(sorts: &[Text], tree: &Sexpr) -> bool
+    ensures { result ≡ names_sort sorts.now tree.now }
+{
+    match sorts {
+        [] => false,
+        [name, ..] => is_symbol(tree, name.as_slice()),
     }
 }

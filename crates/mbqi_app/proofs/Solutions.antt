@@ -6,18 +6,18 @@ use Rattle.mbqi_terms.specs.declared.script.Script.{Script}
 use Rattle.first_profile.specs.Means.{Means}
 use Rattle.mbqi_app.specs.Answer.{IsSolution}
 
-pub has_meaning : (bytes : List ℕ) (status : Status) (text : List ℕ) → IsSolution bytes status text → (script : Script) × Means bytes script
-has_meaning bytes Sat text is = (is.0, is.2)
-has_meaning bytes Unsat text is = (is.0, is.2)
-has_meaning bytes Unknown text is = absurd is
-has_meaning bytes Done text is = absurd is
-has_meaning bytes No text is = absurd is
-has_meaning bytes Words text is = absurd is
-has_meaning bytes (ScriptRefused refusal) text is = absurd is
-has_meaning bytes ReadFault text is = absurd is
-has_meaning bytes TooLong text is = absurd is
-has_meaning bytes WriteFault text is = absurd is
-has_meaning bytes Memory text is = absurd is
-has_meaning bytes (TooWide weight) text is = absurd is
-has_meaning bytes (ModelRefused refusal) text is = absurd is
-has_meaning bytes (RefutationRefused refusal) text is = absurd is
+pub has_meaning : (bytes : List ℕ) (rise : ℕ) (status : Status) (text : List ℕ) → IsSolution bytes rise status text → (script : Script) × Means bytes script
+has_meaning bytes rise Sat text is = (is.0, is.3)
+has_meaning bytes rise Unsat text is = (is.0, is.3)
+has_meaning bytes rise Unknown text is = absurd is
+has_meaning bytes rise Done text is = absurd is
+has_meaning bytes rise No text is = absurd is
+has_meaning bytes rise Words text is = absurd is
+has_meaning bytes rise (ScriptRefused refusal) text is = absurd is
+has_meaning bytes rise ReadFault text is = absurd is
+has_meaning bytes rise TooLong text is = absurd is
+has_meaning bytes rise WriteFault text is = absurd is
+has_meaning bytes rise Memory text is = absurd is
+has_meaning bytes rise (TooWide weight) text is = absurd is
+has_meaning bytes rise (ModelRefused refusal) text is = absurd is
+has_meaning bytes rise (RefutationRefused refusal) text is = absurd is

@@ -6,7 +6,7 @@ use Rattle.mbqi_edge.specs.Files.{Files}
 use Rattle.mbqi_app.specs.Command.{Solve, asked_for}
 use Rattle.mbqi_app.specs.Answer.{Answers, Solves}
 
-pub solved : (words : List (List ℕ)) (files : Files) (file : List ℕ) (status : Status) (Taken : List ℕ → Type 0)
-    → asked_for words ≡ Some (Solve None file) → Solves files file status Taken → Answers words files status Taken
-solved words files file status Taken asked found =
-    (Solve None file, asked, found.0 ∷ [], (found.1, tt), found.2, found.3, found.4)
+pub solved : (words : List (List ℕ)) (files : Files) (file : List ℕ) (from to : ℕ) (status : Status) (Taken : List ℕ → Type 0)
+    → asked_for words ≡ Some (Solve None file) → Solves files file from to status Taken → Answers words files from to status Taken
+solved words files file from to status Taken asked found =
+    (Solve None file, asked, found.0 ∷ [], (found.1, tt), found.2, found.3, found.4, found.5, found.6)

@@ -14,9 +14,13 @@ use Rattle.function_model.specs.Holds.{Holds}
 use Rattle.mbqi_app.specs.Command.{Command, Solve, asked_for, files_of}
 use Rattle.first_profile.specs.Means.{Means}
 use Rattle.mbqi_app.specs.ModelText.{model_text}
+use Rattle.rule_form.specs.Rules.{count}
+use Rattle.mbqi_loop.specs.Journal.{IsJournal}
+use Rattle.mbqi_loop.specs.Outcome.{decisions}
 use Rattle.mbqi_loop.specs.Refuted.{IsRefuted}
 use Rattle.mbqi_loop.specs.declared.outcome.Outcome.{Outcome}
 use Rattle.mbqi_loop.specs.declared.outcome.Outcome.TheVariants as outcome
+use Rattle.mbqi_loop.specs.declared.outcome.Round.{Round}
 use Rattle.mbqi_terms.specs.declared.instance.InstanceLine.{InstanceLine}
 use Rattle.refutation_text.specs.RefutationText.{refutation_text}
 
@@ -24,27 +28,34 @@ use Rattle.refutation_text.specs.RefutationText.{refutation_text}
 abbrev pub file_limit : ℕ
 file_limit = 67108864
 
+-- A journal leads to the outcome in so many ground decisions, which are at most one more than the pool has instances.
+pub record IsReached (script : Script) (outcome : Outcome) (rise : ℕ) : Type 0 where
+  pub journal : IsJournal script outcome
+  pub decided : rise ≡ decisions outcome
+  pub few : rise ≤ count script + 1
+
 -- The text is that of a model that fits the script of the bytes, and in which each assertion holds.
-abbrev pub IsSatText : List ℕ → List ℕ → Type 0
-IsSatText bytes text =
-    (script : Script) × (model : FunctionModel) × Means bytes script × Fits script model × Holds model script
-    × (text ≡ model_text script model)
+abbrev pub IsSatText : List ℕ → ℕ → List ℕ → Type 0
+IsSatText bytes rise text =
+    (script : Script) × (model : FunctionModel) × (journal : List Round) × Means bytes script × Fits script model × Holds model script
+    × (text ≡ model_text script model) × IsReached script (outcome.Sat model journal) rise
 
 -- The text is that of refuted instances of the assertions of the script of the bytes.
-abbrev pub IsUnsatText : List ℕ → List ℕ → Type 0
-IsUnsatText bytes text =
-    (script : Script) × (lines : List InstanceLine) × Means bytes script × IsRefuted script lines × (text ≡ refutation_text script lines)
+abbrev pub IsUnsatText : List ℕ → ℕ → List ℕ → Type 0
+IsUnsatText bytes rise text =
+    (script : Script) × (lines : List InstanceLine) × (journal : List Round) × Means bytes script × IsRefuted script lines
+    × (text ≡ refutation_text script lines) × IsReached script (outcome.Unsat lines journal) rise
 
--- What `solve` may write for a file, by its status.
-abbrev pub IsSolution : List ℕ → Status → List ℕ → Type 0
-IsSolution bytes Sat text = IsSatText bytes text
-IsSolution bytes Unsat text = IsUnsatText bytes text
-IsSolution bytes status text = ⊥
+-- What `solve` may write for a file, by its status, after the counter rose so far.
+abbrev pub IsSolution : List ℕ → ℕ → Status → List ℕ → Type 0
+IsSolution bytes rise Sat text = IsSatText bytes rise text
+IsSolution bytes rise Unsat text = IsUnsatText bytes rise text
+IsSolution bytes rise status text = ⊥
 
--- What a command may write for the contents of its files, by its status.
-abbrev pub IsAnswer : Command → List (List ℕ) → Status → List ℕ → Type 0
-IsAnswer (Solve None file) (bytes ∷ []) status text = IsSolution bytes status text
-IsAnswer command contents status text = ⊥
+-- What a command may write for the contents of its files, by its status, after the counter rose so far.
+abbrev pub IsAnswer : Command → List (List ℕ) → ℕ → Status → List ℕ → Type 0
+IsAnswer (Solve None file) (bytes ∷ []) rise status text = IsSolution bytes rise status text
+IsAnswer command contents rise status text = ⊥
 
 -- The statuses with an answer.
 abbrev pub is_answered : Status → Bool
@@ -97,15 +108,16 @@ HaveAll files (name ∷ names) (bytes ∷ contents) = Has files name bytes × Ha
 HaveAll files [] (bytes ∷ contents) = ⊥
 HaveAll files (name ∷ names) [] = ⊥
 
--- The words' command has an answer with this status, and its text was taken as said.
-abbrev pub Answers : List (List ℕ) → Files → Status → (List ℕ → Type 0) → Type 0
-Answers words files status Taken =
+-- The words' command has an answer with this status, after the counter rose from one number to another, and its text was taken as said.
+abbrev pub Answers : List (List ℕ) → Files → ℕ → ℕ → Status → (List ℕ → Type 0) → Type 0
+Answers words files from to status Taken =
     (command : Command) × (asked_for words ≡ Some command) × (contents : List (List ℕ)) × HaveAll files (files_of command) contents
-    × (text : List ℕ) × IsAnswer command contents status text × Taken text
+    × (rise : ℕ) × (to ≡ from + rise) × (text : List ℕ) × IsAnswer command contents rise status text × Taken text
 
--- The file has an answer with this status, and its text was taken as said.
-abbrev pub Solves : Files → List ℕ → Status → (List ℕ → Type 0) → Type 0
-Solves files file status Taken = (bytes : List ℕ) × Has files file bytes × (text : List ℕ) × IsSolution bytes status text × Taken text
+-- The file has an answer with this status, after the counter rose from one number to another, and its text was taken as said.
+abbrev pub Solves : Files → List ℕ → ℕ → ℕ → Status → (List ℕ → Type 0) → Type 0
+Solves files file from to status Taken =
+    (bytes : List ℕ) × Has files file bytes × (rise : ℕ) × (to ≡ from + rise) × (text : List ℕ) × IsSolution bytes rise status text × Taken text
 
 -- The whole text was taken, or a proper front of it.
 abbrev pub TookAll : Option (List ℕ) → Option (List ℕ) → List ℕ → Type 0
@@ -115,12 +127,12 @@ abbrev pub TookFront : Option (List ℕ) → Option (List ℕ) → List ℕ → 
 TookFront before now text = (n : ℕ) × (n < length text) × (now ≡ with_more before (take n text))
 
 -- The file has an answer with some status, of which a proper front was taken.
-abbrev pub SolvesFront : Files → List ℕ → Option (List ℕ) → Option (List ℕ) → Type 0
-SolvesFront files file before now = (status : Status) × Solves files file status (TookFront before now)
+abbrev pub SolvesFront : Files → List ℕ → ℕ → ℕ → Option (List ℕ) → Option (List ℕ) → Type 0
+SolvesFront files file from to before now = (status : Status) × Solves files file from to status (TookFront before now)
 
 -- The words' command has an answer with some status, of which a proper front was taken.
-abbrev pub AnswersFront : List (List ℕ) → Files → Option (List ℕ) → Option (List ℕ) → Type 0
-AnswersFront words files before now = (status : Status) × Answers words files status (TookFront before now)
+abbrev pub AnswersFront : List (List ℕ) → Files → ℕ → ℕ → Option (List ℕ) → Option (List ℕ) → Type 0
+AnswersFront words files from to before now = (status : Status) × Answers words files from to status (TookFront before now)
 
 -- The file that the words ask to be solved is told, and has such bytes.
 abbrev pub OfTold : List (List ℕ) → Files → (List ℕ → Type 0) → Type 0
@@ -161,19 +173,19 @@ AsksOne before now name = (now ≡ before) ⊎ (now ≡ with_more before (name �
 abbrev pub AskedFront : Option (List (List ℕ)) → Option (List (List ℕ)) → List (List ℕ) → Type 0
 AskedFront before now names = (n : ℕ) × (n ≤ length names) × (now ≡ with_more before (take n names))
 
--- How the counter rises: by the ground decisions behind the answer, of which a script without quantifiers needs
--- one. Want of memory may come before or after it.
+-- How the counter rises where there is no answer: not at all, or by the decisions that were made before memory ran out. How it rises
+-- with an answer is said of the answer.
 abbrev pub Counts : Status → ℕ → ℕ → Type 0
-Counts Sat before now = now ≡ before + 1
-Counts Unsat before now = now ≡ before + 1
-Counts WriteFault before now = now ≡ before + 1
-Counts Memory before now = (before ≤ now) × (now ≤ before + 1)
+Counts Sat before now = before ≤ now
+Counts Unsat before now = before ≤ now
+Counts WriteFault before now = before ≤ now
+Counts Memory before now = before ≤ now
 Counts status before now = now ≡ before
 
 -- The same for a text that is still to be written.
 abbrev pub CountsReading : {T : Type 0} → Result T ReadError → ℕ → ℕ → Type 0
-CountsReading (Ok text) before now = now ≡ before + 1
-CountsReading (Err error.Memory) before now = (before ≤ now) × (now ≤ before + 1)
+CountsReading (Ok text) before now = before ≤ now
+CountsReading (Err error.Memory) before now = before ≤ now
 CountsReading (Err (error.Refused refusal)) before now = now ≡ before
 
 -- The status, or memory ran out, or the file couldn't be read.
@@ -190,9 +202,9 @@ IsDecided status = IsWritten status ⊎ (status ≡ ReadFault)
 
 -- The text of an outcome, and its status.
 abbrev pub outcome_text : Script → Outcome → List ℕ
-outcome_text script (outcome.Sat model) = model_text script model
-outcome_text script (outcome.Unsat lines) = refutation_text script lines
+outcome_text script (outcome.Sat model journal) = model_text script model
+outcome_text script (outcome.Unsat lines journal) = refutation_text script lines
 
 abbrev pub status_of : Outcome → Status
-status_of (outcome.Sat model) = Sat
-status_of (outcome.Unsat lines) = Unsat
+status_of (outcome.Sat model journal) = Sat
+status_of (outcome.Unsat lines journal) = Unsat

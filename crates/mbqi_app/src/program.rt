@@ -41,10 +41,10 @@ pub fn run<F: Shelf, W: Sink, E: Sink, L: Ledger>(
     ensures comes { IsOneOfAll result }
 
     // What an answer says, and what was written of it.
-    ensures answer { IsTrue (is_answered result) → Answers (map string_bytes words.now) (F.files shelf.old) result
+    ensures answer { IsTrue (is_answered result) → Answers (map string_bytes words.now) (F.files shelf.old) steps.old steps.new result
         (TookAll (W.taken out.old) (W.taken out.new)) }
     ensures write_fault { result ≡ Status.WriteFault → Rose (W.faults out.old) (W.faults out.new)
-        × AnswersFront (map string_bytes words.now) (F.files shelf.old) (W.taken out.old) (W.taken out.new) }
+        × AnswersFront (map string_bytes words.now) (F.files shelf.old) steps.old steps.new (W.taken out.old) (W.taken out.new) }
     ensures silent { IsTrue (is_silent result) → W.taken out.new ≡ W.taken out.old }
     ensures told { Rose (E.faults err.old) (E.faults err.new)
         ⊎ (E.taken err.new ≡ with_more (E.taken err.old) (told_of result)) }
@@ -86,10 +86,10 @@ fn carry_out<F: Shelf, W: Sink, L: Ledger>(
     ensures refused { IfScriptRefused result (λ refusal.
         Of (map string_bytes words.now) (F.files shelf.old) (λ bytes. Refused bytes refusal)) }
     ensures comes { IsOneOfAll result }
-    ensures answer { IsTrue (is_answered result) → Answers (map string_bytes words.now) (F.files shelf.old) result
+    ensures answer { IsTrue (is_answered result) → Answers (map string_bytes words.now) (F.files shelf.old) steps.old steps.new result
         (TookAll (W.taken out.old) (W.taken out.new)) }
     ensures write_fault { result ≡ Status.WriteFault → Rose (W.faults out.old) (W.faults out.new)
-        × AnswersFront (map string_bytes words.now) (F.files shelf.old) (W.taken out.old) (W.taken out.new) }
+        × AnswersFront (map string_bytes words.now) (F.files shelf.old) steps.old steps.new (W.taken out.old) (W.taken out.new) }
     ensures silent { IsTrue (is_silent result) → W.taken out.new ≡ W.taken out.old }
     ensures files { F.files shelf.new ≡ F.files shelf.old }
     ensures asked { AskedFront (F.asked shelf.old) (F.asked shelf.new) (names_of (asked_for (map string_bytes words.now))) }

@@ -34,9 +34,9 @@ pub fn solve<F: Shelf, W: Sink, L: Ledger>(
     ensures too_long { result ≡ Status.TooLong → Tells (F.files shelf.old) file.now (λ bytes. file_limit < length bytes) }
     ensures refused { IfScriptRefused result (λ refusal. (bytes : List ℕ) × Has (F.files shelf.old) file.now bytes × Refused bytes refusal) }
     ensures answer { IsTrue (is_answered result)
-        → Solves (F.files shelf.old) file.now result (TookAll (W.taken out.old) (W.taken out.new)) }
+        → Solves (F.files shelf.old) file.now steps.old steps.new result (TookAll (W.taken out.old) (W.taken out.new)) }
     ensures write_fault { result ≡ Status.WriteFault → Rose (W.faults out.old) (W.faults out.new)
-        × SolvesFront (F.files shelf.old) file.now (W.taken out.old) (W.taken out.new) }
+        × SolvesFront (F.files shelf.old) file.now steps.old steps.new (W.taken out.old) (W.taken out.new) }
     ensures silent { IsTrue (is_silent result) → W.taken out.new ≡ W.taken out.old }
     ensures comes { Comes result }
 
@@ -69,10 +69,11 @@ fn write_answer<W: Sink, L: Ledger>(
     steps: &mut Steps<L>,
 ) -> Status
     ensures refused { IfScriptRefused result (λ refusal. Refused bytes.now refusal) }
-    ensures answer { IsTrue (is_answered result) → (text : List ℕ) × IsSolution bytes.now result text
+    ensures answer { IsTrue (is_answered result) → (rise : ℕ) × (steps.new ≡ steps.old + rise) × (text : List ℕ) × IsSolution bytes.now rise result text
         × TookAll (W.taken out.old) (W.taken out.new) text }
     ensures write_fault { result ≡ Status.WriteFault → Rose (W.faults out.old) (W.faults out.new)
-        × ((status : Status) × (text : List ℕ) × IsSolution bytes.now status text × TookFront (W.taken out.old) (W.taken out.new) text) }
+        × ((status : Status) × (rise : ℕ) × (steps.new ≡ steps.old + rise) × (text : List ℕ) × IsSolution bytes.now rise status text
+        × TookFront (W.taken out.old) (W.taken out.new) text) }
     ensures silent { IsTrue (is_silent result) → W.taken out.new ≡ W.taken out.old }
     ensures comes { ComesFromBytes result }
     ensures steps { Counts result steps.old steps.new }
@@ -103,7 +104,7 @@ fn read_answer<L: Ledger>(
     bytes: &[u8],
     steps: &mut Steps<L>,
 ) -> Result<Answer, ReadError>
-    ensures text { IfOk result (λ answer. IsSolution bytes.now answer.status answer.text.items) }
+    ensures text { IfOk result (λ answer. (rise : ℕ) × (steps.new ≡ steps.old + rise) × IsSolution bytes.now rise answer.status answer.text.items) }
     ensures refused { IfRefused result (λ refusal. Refused bytes.now refusal) }
     ensures steps { CountsReading result steps.old steps.new }
 {
@@ -119,14 +120,14 @@ fn answer_of(alloc: Global, script: &Script, outcome: &Outcome) -> Result<Answer
 {
     let mut text = Vec::new(alloc);
     match outcome {
-        Outcome::Sat(model) => {
+        Outcome::Sat(model, _) => {
             write_model(script, model, &mut text)?;
             Ok(Answer {
                 status: Status::Sat,
                 text,
             })
         }
-        Outcome::Unsat(lines) => {
+        Outcome::Unsat(lines, _) => {
             write_refutation(script, lines.as_slice(), &mut text)?;
             Ok(Answer {
                 status: Status::Unsat,

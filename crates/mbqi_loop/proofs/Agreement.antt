@@ -1,7 +1,6 @@
 -- Valuations that agree on the atoms of clauses make the same of them true.
-use Rattle.std.proofs.Common.{◌≡◌, ℕ, ◌<◌, Bool, true, false, not, List, [], ◌∷◌, length, refl, sym, ap, ◌∙◌, cond, ◌||◌, ◌&&◌}
+use Rattle.std.proofs.Common.{◌≡◌, ℕ, ◌<◌, Bool, not, List, [], ◌∷◌, refl, ap, ◌∙◌, cond, ◌||◌, ◌&&◌}
 use Rattle.std.specs.Prelude.{All}
-use Rattle.std.specs.List.{list_any, list_all}
 use Rattle.std.proofs.lemmas.List.Elements.{All-head, All-tail}
 use Rattle.mbqi_values.specs.declared.lit.Lit.{Lit}
 use Rattle.clause_search.specs.Clauses.{lit_true, clause_true, all_true, AreBelow}

@@ -1,6 +1,6 @@
--- Values of ground atoms in a model that fits.
-use Rattle.std.proofs.Common.{◌≡◌, ℕ, zero, suc, Bool, true, false, List, [], ◌∷◌, length, map, refl, sym, ap, subst, ◌∙◌, inl, inr}
-use Rattle.std.specs.Prelude.{◌⊎◌, ◌+◌, ◌==◌, All, Option, None, Some, slice_get, find}
+-- Values of atoms in a model that fits.
+use Rattle.std.proofs.Common.{◌≡◌, ℕ, zero, suc, Bool, true, false, List, [], ◌∷◌, map, refl, sym, ap, subst, ◌∙◌}
+use Rattle.std.specs.Prelude.{◌+◌, ◌==◌, Some, slice_get, find}
 use Rattle.std.proofs.Common.{rules}
 use Rattle.mbqi_values.specs.declared.value.Value.{Value}
 use Rattle.mbqi_values.specs.declared.value.Value.TheVariants.{Num, Elem, Truth}
@@ -13,15 +13,13 @@ use Rattle.mbqi_terms.specs.declared.term.Symbol.TheVariants as symbol
 use Rattle.mbqi_terms.specs.declared.term.Term as terms
 use Rattle.mbqi_terms.specs.declared.term.Term.{Term}
 use Rattle.mbqi_terms.specs.declared.term.Term.TheVariants as term
-use Rattle.function_model.specs.Fits.{IsShown, AreRows, RowsRiseFrom, FitsTable, FitsFunction, FitFunctions, Fits}
+use Rattle.function_model.specs.Fits.{IsShown, AreRows, RowsRiseFrom, FitsFunction, FitFunctions, Fits}
 use Rattle.function_model.specs.Lookup.{is_at, value_at, looked_up_in, looked_up, is_declared, table_where}
 use Rattle.function_model.specs.ValueOf.{Point, value_of}
 use Rattle.function_model.specs.declared.model.FunctionModel.{FunctionModel}
 use Rattle.function_model.specs.declared.model.Row.{Row}
 use Rattle.function_model.specs.declared.model.Table.{Table}
-use Rattle.function_model.specs.declared.model.TableName.{TableName}
-use Rattle.function_model.specs.declared.model.TableName.TheVariants.{Declared}
-use Rattle.ground_form.specs.Profile.{IsAtom, constant}
+use Rattle.ground_form.specs.Profile.{IsAtom}
 use Rattle.std.proofs.Common.{arith, cond}
 
 -- an application is looked up in its symbol's table
@@ -111,12 +109,14 @@ found_value sizes k name args result table vs e fits =
     let P : Sort → Type 0 = λ s. FitsFunction sizes k (record { name = name; args = args; result = s }) table in
     predicate_values sizes k name args table vs (subst P e fits)
 
--- an atom of the profile has a truth in a model that fits
-pub atom_value : (script : Script) (m : FunctionModel) (p : Point) (t : Term) → Fits script m → IsAtom script.functions t → IsTruth (value_of m t p)
-atom_value script m p t fits is =
+-- an atom has a truth in a model that fits
+pub atom_value : (script : Script) (m : FunctionModel) (p : Point) (IsArg : Term → Type 0) (t : Term) → Fits script m → IsAtom script.functions IsArg t
+    → IsTruth (value_of m t p)
+atom_value script m p IsArg t fits is =
+    let values : List Value = map (λ (u : Term). value_of m u p) is.2 in
     let n : 0 + is.0 ≡ is.0 = omega arith in
     let has : HasTable m.sizes 0 is.0 is.1 m.tables =
     subst (λ k. HasTable m.sizes 0 k is.1 m.tables) n (table_there m.sizes 0 is.0 script.functions m.tables is.1 fits.tables is.4) in
-    let e : value_of m t p ≡ looked_up_in has.0 (map (λ (u : Term). value_of m u p) (map constant is.2)) =
-    ap (λ u. value_of m u p) is.3 ∙ (value_apply m p is.0 (map constant is.2) ∙ ap (λ o. looked_up o (map (λ (u : Term). value_of m u p) (map constant is.2))) has.1) in
-    subst IsTruth (sym e) (found_value m.sizes is.0 is.1.name is.1.args is.1.result has.0 (map (λ (u : Term). value_of m u p) (map constant is.2)) is.5.0 has.2)
+    let e : value_of m t p ≡ looked_up_in has.0 values =
+    ap (λ u. value_of m u p) is.3 ∙ (value_apply m p is.0 is.2 ∙ ap (λ o. looked_up o values) has.1) in
+    subst IsTruth (sym e) (found_value m.sizes is.0 is.1.name is.1.args is.1.result has.0 values is.5.0 has.2)

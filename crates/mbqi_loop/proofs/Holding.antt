@@ -1,7 +1,7 @@
--- A clause that is true under the values of a model holds in it.
-use Rattle.std.proofs.Common.{◌≡◌, ℕ, Bool, true, false, not, List, [], ◌∷◌, map, refl, sym, ap, subst, ◌∙◌, inl, inr, rules, ◌||◌, ◌&&◌}
+-- A clause that is true under the values of a model at a point holds there.
+use Rattle.std.proofs.Common.{◌≡◌, Bool, true, false, not, List, [], ◌∷◌, map, refl, sym, ap, subst, ◌∙◌, inl, inr, rules, ◌||◌}
 use Rattle.std.specs.Prelude.{◌⊎◌, All}
-use Rattle.std.specs.List.{AllByRecursion, list_any, list_all}
+use Rattle.std.specs.List.{list_any}
 use Rattle.std.proofs.lemmas.List.Elements.{All-head, All-tail}
 use Rattle.mbqi_values.specs.declared.value.Value.{Value}
 use Rattle.mbqi_values.specs.declared.value.Value.TheVariants.{Num, Elem, Truth}
@@ -13,46 +13,49 @@ use Rattle.mbqi_terms.specs.declared.formula.Formula.TheOpen.{Formula-F}
 use Rattle.mbqi_terms.specs.declared.formula.Formula.TheVariants as formula
 use Rattle.mbqi_terms.specs.declared.formula.Formula.TheVariants.{rolls-Any}
 use denote.Hole.Carrier.{hidden}
-use Rattle.mbqi_terms.specs.declared.script.Assertion.{Assertion}
 use Rattle.mbqi_terms.specs.declared.script.Function.{Function}
 use Rattle.mbqi_terms.specs.declared.script.Script.{Script}
+use Rattle.mbqi_terms.specs.declared.sort.Binder.{Binder}
 use Rattle.mbqi_terms.specs.declared.term.Term.{Term}
 use Rattle.function_model.specs.Fits.{Fits}
-use Rattle.function_model.specs.Holds.{HoldsAt, SomeHolds, AssertionsHold, Holds, nowhere}
+use Rattle.function_model.specs.Holds.{ForAll, HoldsAt, SomeHolds}
 use Rattle.function_model.specs.TruthOf.{Meanings, truth_layer, truth_of}
-use Rattle.function_model.specs.ValueOf.{value_of, is_true}
+use Rattle.function_model.specs.ValueOf.{Point, value_of, is_true}
 use Rattle.function_model.specs.declared.model.FunctionModel.{FunctionModel}
-use Rattle.ground_form.specs.Profile.{IsAtom, IsLiteral, IsClause, IsElementary}
-use Rattle.mbqi_loop.specs.Outcome.{values_in}
+use Rattle.ground_form.specs.Profile.{IsLiteral, IsClause}
 use Rattle.mbqi_loop.proofs.Atoms.{IsTruth, atom_value}
 
-truth_atom : (m : Meanings) (t : Term) → truth_of m (formula.Atom t) ≡ is_true (m.value t)
+-- the values of terms in a model at a point; no array equality is read
+abbrev pub values_at : FunctionModel → Point → Meanings
+values_at model p = record { value = λ t. value_of model t p; same = λ a b. false }
+
+pub truth_atom : (m : Meanings) (t : Term) → truth_of m (formula.Atom t) ≡ is_true (m.value t)
 truth_atom m t = search (rules, formulas.the_lemmas)
 
-truth_not : (m : Meanings) (t : Term) → truth_of m (formula.Not (formula.Atom t)) ≡ not (is_true (m.value t))
+pub truth_not : (m : Meanings) (t : Term) → truth_of m (formula.Not (formula.Atom t)) ≡ not (is_true (m.value t))
 truth_not m t = search (rules, formulas.the_lemmas)
 
-truth_any : (m : Meanings) (fs : List Formula) → truth_of m (formula.Any fs) ≡ list_any (λ f. f) (map (truth_of m) fs)
+pub truth_any : (m : Meanings) (fs : List Formula) → truth_of m (formula.Any fs) ≡ list_any (λ f. f) (map (truth_of m) fs)
 truth_any m fs = ap (truth_of m) (sym (rolls-Any fs)) ∙ fold-roll-Formula Bool (truth_layer m) (Formula-F.Any fs)
 
 -- some formula of a list holds
-abbrev SomeOf : List Function → FunctionModel → List Formula → Type 0
-SomeOf gs m [] = ⊥
-SomeOf gs m (f ∷ fs) = HoldsAt gs m true f nowhere ⊎ SomeOf gs m fs
+abbrev SomeOf : List Function → FunctionModel → Point → List Formula → Type 0
+SomeOf gs m p [] = ⊥
+SomeOf gs m p (f ∷ fs) = HoldsAt gs m true f p ⊎ SomeOf gs m p fs
 
-abbrev some_in : List Function → FunctionModel → Formula → Type 0
-some_in gs m (formula.Any' n row) = SomeHolds gs m true row nowhere
-some_in gs m other = ⊥
+abbrev some_in : List Function → FunctionModel → Point → Formula → Type 0
+some_in gs m p (formula.Any' n row) = SomeHolds gs m true row p
+some_in gs m p other = ⊥
 
-some_any : (gs : List Function) (m : FunctionModel) (fs : List Formula) → SomeOf gs m fs → some_in gs m (formula.Any fs)
+some_any : (gs : List Function) (m : FunctionModel) (p : Point) (fs : List Formula) → SomeOf gs m p fs → some_in gs m p (formula.Any fs)
 unfolding HoldsAt hidden-the_row-Formula-0 hidden hidden-the_row-Formula-1
-some_any gs m [] h = h
-some_any gs m (f ∷ fs) (inl h) = inl h
-some_any gs m (f ∷ fs) (inr h) = inr (some_any gs m fs h)
+some_any gs m p [] h = h
+some_any gs m p (f ∷ fs) (inl h) = inl h
+some_any gs m p (f ∷ fs) (inr h) = inr (some_any gs m p fs h)
 
-holds_any : (gs : List Function) (m : FunctionModel) (fs : List Formula) → SomeOf gs m fs → HoldsAt gs m true (formula.Any fs) nowhere
+holds_any : (gs : List Function) (m : FunctionModel) (p : Point) (fs : List Formula) → SomeOf gs m p fs → HoldsAt gs m true (formula.Any fs) p
 unfolding HoldsAt hidden-the_row-Formula-0 hidden hidden-the_row-Formula-1
-holds_any gs m fs h = some_any gs m fs h
+holds_any gs m p fs h = some_any gs m p fs h
 
 -- an atom that is true holds, and the negation of one that is false
 of_true : (v : Value) → is_true v ≡ true → v ≡ Truth true
@@ -67,58 +70,47 @@ of_false (Truth false) is h = refl
 of_false (Num n) is h = let e : Num n ≡ Truth is.0 = is.1 in cc
 of_false (Elem n) is h = let e : Elem n ≡ Truth is.0 = is.1 in cc
 
-holds_atom : (gs : List Function) (m : FunctionModel) (t : Term) → value_of m t nowhere ≡ Truth true → HoldsAt gs m true (formula.Atom t) nowhere
+holds_atom : (gs : List Function) (m : FunctionModel) (p : Point) (t : Term) → value_of m t p ≡ Truth true → HoldsAt gs m true (formula.Atom t) p
 unfolding HoldsAt
-holds_atom gs m t h = h
+holds_atom gs m p t h = h
 
-holds_not : (gs : List Function) (m : FunctionModel) (t : Term) → value_of m t nowhere ≡ Truth false → HoldsAt gs m true (formula.Not (formula.Atom t)) nowhere
+holds_not : (gs : List Function) (m : FunctionModel) (p : Point) (t : Term) → value_of m t p ≡ Truth false
+    → HoldsAt gs m true (formula.Not (formula.Atom t)) p
 unfolding HoldsAt hidden-the_row-Formula-0 hidden hidden-the_row-Formula-1
-holds_not gs m t h = h
+holds_not gs m p t h = h
 
-literal_holds : (script : Script) (m : FunctionModel) (f : Formula) → Fits script m → IsLiteral script.functions f → truth_of (values_in m) f ≡ true
-    → HoldsAt script.functions m true f nowhere
-literal_holds script m f fits is h = let P : Formula → Type 0 = λ g. HoldsAt script.functions m true g nowhere in elim is.2 [
-  | inl e ↦ subst P (sym e) (holds_atom script.functions m is.0
-      (of_true (value_of m is.0 nowhere) (sym (truth_atom (values_in m) is.0) ∙ (sym (ap (truth_of (values_in m)) e) ∙ h))))
-  | inr e ↦ subst P (sym e) (holds_not script.functions m is.0
-      (of_false (value_of m is.0 nowhere) (atom_value script m nowhere is.0 fits is.1)
-      (sym (truth_not (values_in m) is.0) ∙ (sym (ap (truth_of (values_in m)) e) ∙ h))))
-]
+pub holds_for_all : (gs : List Function) (m : FunctionModel) (p : Point) (bs : List Binder) (f : Formula)
+    → ForAll m.sizes bs p (HoldsAt gs m true f) → HoldsAt gs m true (formula.Forall bs f) p
+unfolding HoldsAt hidden-the_row-Formula-0 hidden hidden-the_row-Formula-1
+holds_for_all gs m p bs f h = h
 
 which : {P : Type 0} (a b : Bool) → (a || b) ≡ true → (a ≡ true → P) → (b ≡ true → P) → P
 which true b h f g = f refl
 which false b h f g = g h
 
-some_literal_holds : (script : Script) (m : FunctionModel) (fs : List Formula) → Fits script m → All (IsLiteral script.functions) fs
-    → list_any (λ f. f) (map (truth_of (values_in m)) fs) ≡ true → SomeOf script.functions m fs
-some_literal_holds script m [] fits all h = cc
-some_literal_holds script m (f ∷ fs) fits all h =
-    which (truth_of (values_in m) f) (list_any (λ g. g) (map (truth_of (values_in m)) fs)) h
-    (λ e. inl (literal_holds script m f fits (All-head (IsLiteral script.functions) f fs all) e))
-    (λ e. inr (some_literal_holds script m fs fits (All-tail (IsLiteral script.functions) f fs all) e))
+module _ (script : Script) (m : FunctionModel) (fits : Fits script m) (p : Point) (IsArg : Term → Type 0) where
+  abbrev HoldsHere : Formula → Type 0
+  HoldsHere f = HoldsAt script.functions m true f p
 
-clause_holds : (script : Script) (m : FunctionModel) (f : Formula) → Fits script m → IsClause script.functions f → truth_of (values_in m) f ≡ true
-    → HoldsAt script.functions m true f nowhere
-clause_holds script m f fits (inl is) h = literal_holds script m f fits is h
-clause_holds script m f fits (inr is) h =
-    let P : Formula → Type 0 = λ g. HoldsAt script.functions m true g nowhere in
-    let e : list_any (λ g. g) (map (truth_of (values_in m)) is.0) ≡ true = sym (truth_any (values_in m) is.0) ∙ (sym (ap (truth_of (values_in m)) is.1) ∙ h) in
-    subst P (sym is.1) (holds_any script.functions m is.0 (some_literal_holds script m is.0 fits is.2 e))
+  literal_holds : (f : Formula) → IsLiteral script.functions IsArg f → truth_of (values_at m p) f ≡ true → HoldsHere f
+  literal_holds f is h = elim is.2 [
+    | inl e ↦ subst HoldsHere (sym e) (holds_atom script.functions m p is.0
+        (of_true (value_of m is.0 p) (sym (truth_atom (values_at m p) is.0) ∙ (sym (ap (truth_of (values_at m p)) e) ∙ h))))
+    | inr e ↦ subst HoldsHere (sym e) (holds_not script.functions m p is.0
+        (of_false (value_of m is.0 p) (atom_value script m p IsArg is.0 fits is.1)
+        (sym (truth_not (values_at m p) is.0) ∙ (sym (ap (truth_of (values_at m p)) e) ∙ h))))
+  ]
 
-both : (a b : Bool) → (a && b) ≡ true → (a ≡ true) × (b ≡ true)
-both true b h = (refl, h)
-both false b h = cc
+  some_literal_holds : (fs : List Formula) → All (IsLiteral script.functions IsArg) fs
+      → list_any (λ f. f) (map (truth_of (values_at m p)) fs) ≡ true → SomeOf script.functions m p fs
+  some_literal_holds [] all h = cc
+  some_literal_holds (f ∷ fs) all h =
+      which (truth_of (values_at m p) f) (list_any (λ g. g) (map (truth_of (values_at m p)) fs)) h
+      (λ e. inl (literal_holds f (All-head (IsLiteral script.functions IsArg) f fs all) e))
+      (λ e. inr (some_literal_holds fs (All-tail (IsLiteral script.functions IsArg) f fs all) e))
 
-assertions_hold : (script : Script) (m : FunctionModel) (assertions : List Assertion) → Fits script m
-    → AllByRecursion (λ (assertion : Assertion). IsClause script.functions assertion.formula) assertions
-    → list_all (λ (assertion : Assertion). truth_of (values_in m) assertion.formula) assertions ≡ true → AssertionsHold script.functions m assertions
-assertions_hold script m [] fits all h = tt
-assertions_hold script m (a ∷ rest) fits all h =
-    let parts : (truth_of (values_in m) a.formula ≡ true) × (list_all (λ (assertion : Assertion). truth_of (values_in m) assertion.formula) rest ≡ true) =
-    both (truth_of (values_in m) a.formula) (list_all (λ (assertion : Assertion). truth_of (values_in m) assertion.formula) rest) h in
-    (clause_holds script m a.formula fits all.0 parts.0, assertions_hold script m rest fits all.1 parts.1)
-
--- where each assertion is true under the values of a model that fits, each holds in it
-pub script_holds : (script : Script) (m : FunctionModel) → Fits script m → IsElementary script
-    → list_all (λ (assertion : Assertion). truth_of (values_in m) assertion.formula) script.assertions ≡ true → Holds m script
-script_holds script m fits is h = assertions_hold script m script.assertions fits is.assertions h
+  pub clause_holds : (f : Formula) → IsClause script.functions IsArg f → truth_of (values_at m p) f ≡ true → HoldsHere f
+  clause_holds f (inl one) h = literal_holds f one h
+  clause_holds f (inr any) h =
+      subst HoldsHere (sym any.1) (holds_any script.functions m p any.0 (some_literal_holds any.0 any.2
+      (sym (truth_any (values_at m p) any.0) ∙ (sym (ap (truth_of (values_at m p)) any.1) ∙ h))))

@@ -1,7 +1,10 @@
 pub mod Atoms
 pub mod Holding
+pub mod Putting
+pub mod Points
+pub mod Rules
 pub mod Agreement
-pub mod Decided
+pub mod Rounds
 pub mod Journals
 pub mod Counts
 pub mod Listing

@@ -110,12 +110,7 @@ fn atom_at(
 }
 
 // The numbers of arguments in the pool.
-fn ids_at(
-    alloc: Global,
-    pool: &Pool,
-    tuple: &[usize],
-    args: &[Term],
-) -> Result<TermIds, AllocError>
+fn ids_at(alloc: Global, pool: &Pool, tuple: &[usize], args: &[Term]) -> Result<TermIds, AllocError>
     requires { All (IsPlaced pool.now (length tuple.now)) args.now }
     ensures { IfOk result (λ ids. ids ≡ map (id_of pool.now tuple.now) args.now) }
 {

@@ -1,31 +1,35 @@
-use Rattle.std.proofs.Common.{◌≡◌, List, All, ap, subst, ◌∙◌}
-use Rattle.std.specs.List.{list_all}
-use Rattle.mbqi_terms.specs.declared.instance.InstanceLine.{InstanceLine}
-use Rattle.function_model.specs.TruthOf.{truth_of}
-use Rattle.ground_form.specs.Atoms.{formulas_in}
-use Rattle.ground_form.specs.Profile.{IsClause}
-use Rattle.mbqi_loop.proofs.Decided.{found_holds, closed_refuted, are_clauses}
+use Rattle.function_model.specs.Holds.{values_in}
+use Rattle.mbqi_loop.specs.Journal.{first_lines}
+use Rattle.mbqi_loop.proofs.Rounds.{listed_true, first_true, each_named}
+use Rattle.mbqi_loop.proofs.Rules.{script_holds}
 use Rattle.mbqi_loop.proofs.decision.decide.Goals as goal
 
-pub clauses_of-requires-clause-clauses : goal.clauses_of-requires-clause-clauses
-clauses_of-requires-clause-clauses c =
-    rw (c.as_slice-functions.ensures) (rw (c.as_slice.ensures) (are_clauses c.args.script.now c.args.lines c.requires.elementary c.requires.lines))
-
-pub element_model-requires-clause-over : goal.element_model-requires-clause-over
-element_model-requires-clause-over c =
-    rw (c.as_slice-in-Found.ensures.atoms) (rw c.as_slice-functions.ensures at c.clauses_of.ensures.over)
-
-pub returns-in_ok-model-in-Found-clause-holds : goal.returns-in_ok-model-in-Found-clause-holds
-returns-in_ok-model-in-Found-clause-holds c =
+pub returns-in_ok-added-in-Found-clause-round : goal.returns-in_ok-added-in-Found-clause-round
+returns-in_ok-added-in-Found-clause-round c =
+    let model = c.in_ok-model-in-Found.model in
     let found = rw c.in-Found.is at c.in_ok-truths.ensures.model in
-    let of_atoms = rw c.as_slice-in-Found.ensures.atoms at c.in_ok-model-in-Found.ensures.truth in
-    let values = rw c.as_slice-in-Found-2.ensures at of_atoms in
-    found_holds c.args.script.now c.in_ok-model-in-Found.model c.in_ok-pool.pool.terms c.clauses_of.new.table c.in-Found.truths c.in_ok-clauses.clauses
-    c.args.lines c.requires.elementary c.in_ok-model-in-Found.ensures.fits c.requires.lines values c.in_ok-clauses.ensures.below
-    (λ m. c.in_ok-clauses.ensures.truth m ∙ ap (λ (ls : List InstanceLine). list_all (truth_of m) (formulas_in ls)) c.as_slice.ensures) found
+    let of_atoms = rw c.as_slice-atoms.ensures.atoms at c.in_ok-model-in-Found.ensures.decides in
+    let decides = rw c.as_slice.ensures at of_atoms in
+    let fail = rw c.as_slice-in-Found.ensures at c.in_ok-added-in-Found.ensures.false_there in
+    record {
+      full = c.in_ok-model-in-Found.ensures.fits;
+      listed = listed_true c.args.script.now.functions c.args.pool.now.terms c.args.listed.now c.in-Found.truths (values_in model) c.requires.listed decides found;
+      choices = c.in_ok-added-in-Found.ensures.choices;
+      open' = c.in_ok-added-in-Found.ensures.open;
+      differ = c.in_ok-added-in-Found.ensures.distinct;
+      fail = fail (values_in model) decides;
+    }
 
-pub returns-in-Closed-clause-refuted : goal.returns-in-Closed-clause-refuted
-returns-in-Closed-clause-refuted c =
-    let closed = rw c.in-Closed.is at c.in_ok-truths.ensures.closed in
-    closed_refuted c.args.script.now c.in_ok-pool.pool.terms c.clauses_of.new.table c.in_ok-clauses.clauses c.args.lines c.requires.elementary c.requires.lines
-    (λ m. c.in_ok-clauses.ensures.truth m ∙ ap (λ (ls : List InstanceLine). list_all (truth_of m) (formulas_in ls)) c.as_slice.ensures) closed
+pub returns-in_ok-added-in-Found-clause-holds : goal.returns-in_ok-added-in-Found-clause-holds
+returns-in_ok-added-in-Found-clause-holds c = λ none.
+    let model = c.in_ok-model-in-Found.model in
+    let script = c.args.script.now in
+    let found = rw c.in-Found.is at c.in_ok-truths.ensures.model in
+    let of_atoms = rw c.as_slice-atoms.ensures.atoms at c.in_ok-model-in-Found.ensures.decides in
+    let decides = rw c.as_slice.ensures at of_atoms in
+    let elsewhere = rw c.as_slice-in-Found.ensures at c.in_ok-added-in-Found.ensures.true_elsewhere in
+    let listed = listed_true script.functions c.args.pool.now.terms c.args.listed.now c.in-Found.truths (values_in model) c.requires.listed decides found in
+    script_holds script model (c.shown_fits.ensures script model c.in_ok-model-in-Found.ensures.fits) (c.shown_has_declared.ensures model)
+    (each_named script c.args.pool.now model c.requires.elementary c.requires.pool c.in_ok-model-in-Found.ensures.sizes c.in_ok-model-in-Found.ensures.elements)
+    (elsewhere none (values_in model) decides) c.requires.elementary
+    (first_true (values_in model) (first_lines script) c.requires.first.0 c.args.listed.now.lines c.requires.first.1 listed)

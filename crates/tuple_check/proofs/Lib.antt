@@ -1,0 +1,5 @@
+pub mod TupleLists
+pub mod Arguments
+pub mod Truths
+pub mod Choices
+pub mod AllChoices
