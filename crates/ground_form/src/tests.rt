@@ -4,7 +4,7 @@ ghost use Rattle.std.specs.Prelude.{◌≡◌, length, map, slice_get, Some, All
 ghost use Rattle.std.specs.List.{AllByRecursion};
 ghost use Rattle.mbqi_terms.specs.declared.script.Function.{Function};
 ghost use Rattle.ground_form.specs.Atoms.{formulas_in};
-ghost use Rattle.ground_form.specs.Profile.{IsClause, IsConstant, IsGround, IsLiteral, IsPredicate, NamesConstant, the_sort};
+ghost use Rattle.ground_form.specs.Profile.{IsClause, IsConstant, IsGround, IsLiteral, IsPredicate, NamesConstant, constant, the_sort};
 
 use super::*;
 use mbqi_terms::{
@@ -55,10 +55,8 @@ fn signature(alloc: Global) -> Result<Functions, AllocError>
     Ok(functions)
 }
 
-fn terms(alloc: Global, functions: &[Function], constants: &[usize]) -> Result<Terms, AllocError>
-    requires { All (NamesConstant functions.now) constants.now }
-    ensures ground { IfOk result (All (IsGround functions.now)) }
-    ensures length { IfOk result (λ terms. length terms ≡ length constants.now) }
+fn terms(alloc: Global, constants: &[usize]) -> Result<Terms, AllocError>
+    ensures { IfOk result (λ terms. terms ≡ map constant constants.now) }
 {
     let mut terms = Terms::new(alloc);
     for number in constants {
@@ -82,7 +80,7 @@ fn literal(
 {
     let atom = Formula::Atom(Term::Apply(
         Symbol::Declared(number),
-        terms(alloc, functions, constants)?,
+        terms(alloc, constants)?,
     ));
     if yes {
         return Ok(atom);

@@ -1,7 +1,7 @@
 use Rattle.std.proofs.Common.{All, [], ◌∷◌, inl, sym, subst}
 use Rattle.std.proofs.lemmas.List.Elements.{All-nil, All-cons, All-map, All-push}
 use Rattle.mbqi_terms.specs.declared.instance.InstanceLine.{InstanceLine}
-use Rattle.ground_form.specs.Profile.{IsClause, NamesConstant}
+use Rattle.ground_form.specs.Profile.{IsClause, IsGround, NamesConstant}
 use Rattle.ground_form.proofs.tests.lines.Goals as goal
 
 pub literal-requires-2-clause-constants : goal.literal-requires-2-clause-constants
@@ -11,7 +11,7 @@ literal-requires-2-clause-constants c =
 
 pub returns : goal.returns
 returns c =
-    let Q = IsClause c.args.functions.now in
+    let Q = IsClause c.args.functions.now (IsGround c.args.functions.now) in
     let P : InstanceLine → Type 0 = λ line. Q line.formula in
     let none : All P c.new-lines.result = rw (c.new-lines.ensures) (All-nil P) in
     let one : All P c.push.new.self = rw (c.in_ok-push.ensures.ok)
