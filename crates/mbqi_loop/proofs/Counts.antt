@@ -1,5 +1,5 @@
 -- All choices over the pool in one list, which is as long as their count.
-use Rattle.std.proofs.Common.{◌≡◌, ℕ, zero, suc, ◌+◌, ◌*◌, ◌≤◌, ◌<◌, ◌⊎◌, inl, inr, List, [], ◌∷◌, ◌++◌, length, map, Some, slice_get, refl, sym, ap, subst, ◌∙◌, arith, length-append}
+use Rattle.std.proofs.Common.{◌≡◌, ℕ, zero, suc, ◌+◌, ◌*◌, ◌≤◌, inl, inr, List, [], ◌∷◌, ◌++◌, length, map, Some, slice_get, refl, sym, ap, subst, ◌∙◌, arith, length-append}
 use Rattle.std.specs.Prelude.{All, Contains}
 use Rattle.std.specs.List.{flat_map}
 use Rattle.std.proofs.lemmas.List.{length-map}
@@ -11,7 +11,7 @@ use Rattle.mbqi_terms.specs.declared.script.Assertion.{Assertion}
 use Rattle.mbqi_terms.specs.declared.script.Script.{Script}
 use Rattle.mbqi_terms.specs.declared.term.Term.{Term}
 use Rattle.mbqi_terms.proofs.Places.{all_at}
-use Rattle.rule_form.specs.Rules.{IsChoice, assertion_at, count, count_from, formula_of, pool_terms, power, variables_of}
+use Rattle.rule_form.specs.Rules.{IsChoice, count, count_from, formula_of, pool_terms, power, variables_of}
 use Rattle.rule_form.specs.declared.choice.Choice.{Choice}
 use Rattle.mbqi_loop.specs.Journal.{Lead, added_in}
 use Rattle.mbqi_loop.specs.declared.outcome.Round.{Round}
@@ -73,8 +73,11 @@ fewer {X} (x ∷ xs) ys distinct there =
     let one : x ≡ y = cc in
     let places : 0 ≡ suc i = distinct 0 (suc i) y (ap Some one) e in
     omega (arith, places)) in
-    omega (arith, length-without here.0 ys x here.1,
-    fewer xs (without here.0 ys) (λ i j y e f. let h : suc i ≡ suc j = distinct (suc i) (suc j) y e f in omega (arith, h)) rest)
+    omega (
+      arith,
+      length-without here.0 ys x here.1,
+      fewer xs (without here.0 ys) (λ i j y e f. let h : suc i ≡ suc j = distinct (suc i) (suc j) y e f in omega (arith, h)) rest,
+    )
 
 -- all lists of so many terms of a pool
 abbrev tuples : List Term → ℕ → List (List Term)

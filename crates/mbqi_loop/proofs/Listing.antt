@@ -1,5 +1,5 @@
 -- A list with more instances behind it.
-use Rattle.std.proofs.Common.{◌≡◌, ℕ, ◌<◌, ◌≤◌, Bool, true, List, [], ◌∷◌, ◌++◌, ◌&&◌, length, map, take, get_or, refl, sym, ap, subst, ◌∙◌, arith}
+use Rattle.std.proofs.Common.{◌≡◌, ℕ, ◌<◌, ◌≤◌, Bool, List, [], ◌++◌, ◌&&◌, length, take, get_or, sym, ap, subst, ◌∙◌, arith}
 use Rattle.std.specs.Prelude.{All}
 use Rattle.std.specs.List.{list_all}
 use Rattle.std.proofs.lemmas.List.{get_or-take, length-take, map-append}
@@ -12,7 +12,7 @@ use Rattle.mbqi_terms.specs.declared.script.Function.{Function}
 use Rattle.mbqi_terms.specs.declared.term.Term.{Term}
 use Rattle.function_model.specs.TruthOf.{Meanings, truth_of}
 use Rattle.function_model.specs.ValueOf.{is_true}
-use Rattle.ground_form.specs.Atoms.{IsOver, atom_at, atom_tree, formulas_in, truths_by}
+use Rattle.ground_form.specs.Atoms.{IsOver, atom_tree, formulas_in, truths_by}
 use Rattle.ground_form.specs.Numbering.{Extends}
 use Rattle.ground_form.specs.declared.atoms.GroundAtom.{GroundAtom}
 use Rattle.mbqi_loop.specs.Listed.{IsListed}
@@ -57,7 +57,7 @@ listed_append functions terms before after more lines is extends over below say 
           list_all-append (clause_true v) before.clauses more
           ∙ (ap (λ b. b && all_true v more) earlier ∙ ap (λ b. list_all (truth_of m) (formulas_in before.lines) && b) (say m)) in
           let joined : list_all (truth_of m) (formulas_in before.lines ++ formulas_in lines)
-              ≡ (list_all (truth_of m) (formulas_in before.lines) && list_all (truth_of m) (formulas_in lines)) =
+          ≡ (list_all (truth_of m) (formulas_in before.lines) && list_all (truth_of m) (formulas_in lines)) =
           list_all-append (truth_of m) (formulas_in before.lines) (formulas_in lines) in
           ap (all_true v) clauses_are ∙ (parts ∙ (sym joined
           ∙ ap (list_all (truth_of m)) (sym (map-append (λ (line : InstanceLine). line.formula) before.lines lines) ∙ ap formulas_in (sym lines_are))));

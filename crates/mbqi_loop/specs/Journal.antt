@@ -1,6 +1,6 @@
 -- The journal of a run of the loop (this project's own, after Ge and de Moura 2009): the model of each round and the choices whose
 -- instances it added.
-use Rattle.std.specs.Prelude.{◌≡◌, ℕ, ◌≤◌, true, false, List, [], ◌∷◌, ◌++◌, length, All, Contains}
+use Rattle.std.specs.Prelude.{◌≡◌, ◌≤◌, true, false, List, [], ◌∷◌, ◌++◌, length, All, Contains}
 use Rattle.std.specs.List.{flat_map, list_all}
 use Rattle.mbqi_terms.specs.Distinct.{AreDistinct}
 use Rattle.mbqi_terms.specs.declared.instance.InstanceLine.{InstanceLine}

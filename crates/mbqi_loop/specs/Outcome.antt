@@ -1,10 +1,9 @@
 -- What the loop answers.
-use Rattle.std.specs.Prelude.{ℕ, ◌+◌, List, length, Option, None, Some}
+use Rattle.std.specs.Prelude.{ℕ, ◌+◌, List, length}
 use Rattle.mbqi_terms.specs.declared.instance.InstanceLine.{InstanceLine}
 use Rattle.function_model.specs.declared.model.FunctionModel.{FunctionModel}
 use Rattle.mbqi_loop.specs.declared.outcome.Outcome.{Outcome}
 use Rattle.mbqi_loop.specs.declared.outcome.Outcome.TheVariants.{Sat, Unsat}
-use Rattle.mbqi_loop.specs.declared.outcome.Round.{Round}
 
 -- A fact of the model, or of the instances.
 abbrev pub IfSat : Outcome → (FunctionModel → Type 0) → Type 0

@@ -1,4 +1,4 @@
-use Rattle.std.proofs.Common.{◌≡◌, ◌++◌, All, List, refl, sym, ap, subst, ◌∙◌}
+use Rattle.std.proofs.Common.{All, List, sym, ap, subst, ◌∙◌}
 use Rattle.std.specs.List.{list_all}
 use Rattle.mbqi_terms.specs.declared.instance.InstanceLine.{InstanceLine}
 use Rattle.function_model.specs.TruthOf.{truth_of}

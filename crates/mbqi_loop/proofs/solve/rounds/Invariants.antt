@@ -1,5 +1,4 @@
 use Rattle.std.proofs.Common.{◌≡◌, ◌+◌, ◌-◌, length}
-use Rattle.ground_form.specs.Atoms.{IsPool}
 use Rattle.rule_form.specs.Rules.{count}
 use Rattle.mbqi_loop.specs.Journal.{Lead, added_in, first_lines}
 use Rattle.mbqi_loop.specs.Listed.{IsListed}
