@@ -157,8 +157,8 @@ fn scripts_have_models(rt: HostRuntime) -> Result<(), Fail> {
     Ok(())
 }
 
-/// The scripts with ground assertions.
-const DECIDED: [&Case; 8] = [
+/// The scripts with assertions.
+const DECIDED: [&Case; 16] = [
     &scripts::CONTRADICTING_UNITS,
     &scripts::BROKEN_CHAIN,
     &scripts::CHAIN,
@@ -167,10 +167,18 @@ const DECIDED: [&Case; 8] = [
     &scripts::TWICE,
     &scripts::PAIRS,
     &scripts::SPREAD,
+    &scripts::ONE_RULE,
+    &scripts::ONE_INSTANCE,
+    &scripts::NO_CONSTANTS,
+    &scripts::SYMMETRIC,
+    &scripts::JOINED,
+    &scripts::TORN,
+    &scripts::THREE_RULES,
+    &scripts::INNER_NAME,
 ];
 
 #[test]
-fn ground_assertions_are_decided(rt: HostRuntime) -> Result<(), Fail> {
+fn assertions_are_decided(rt: HostRuntime) -> Result<(), Fail> {
     let alloc = rt.alloc();
     for case in DECIDED {
         let call = call_run(alloc, SOLVE, shelf_of(alloc, case.script, &[])?, AMPLE)?;
@@ -257,7 +265,7 @@ fn scripts_outside_the_profile_are_refused(rt: HostRuntime) -> Result<(), Fail> 
         "(declare-sort \"S\" 0)",
         "(declare-sort S 0)(declare-fun p () Bool)",
         "(declare-sort S 0)(declare-fun f (S) S)",
-        "(declare-sort S 0)(declare-fun p (S) Bool)(assert (forall ((x S)) (p x)))",
+        "(declare-sort S 0)(declare-fun p (S) Bool)(assert (forall ((p S)) (p p)))",
         "(declare-sort S 0)(declare-const c S)(declare-fun p (S) Bool)(assert (or (p c)))",
         "(declare-sort S 0)(declare-const c S)(declare-fun p (S) Bool)(assert (p d))",
         "(declare-sort S 0)(declare-const c S)(declare-fun p (S) Bool)(assert (p p))",

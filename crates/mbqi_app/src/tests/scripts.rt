@@ -1,4 +1,4 @@
-//! Scripts with ground assertions and their answers, made by hand.
+//! Scripts with assertions and their answers, made by hand.
 
 /// A script and its answer, whole.
 pub struct Case {
@@ -261,6 +261,173 @@ pub const SPREAD: Case = Case {
 (fun c19 () () @19)
 (fun p ((@0 @1 @2 @3 @4 @5 @6 @7 @8 @9 @10 @11 @12 @13 @14 @15 @16 @17 @18 @19 @20)) (((@0) true) ((@1) true) ((@2) true) ((@3) true) ((@4) true) ((@5) true) ((@6) true) ((@7) true) ((@8) true) ((@9) true) ((@10) true) ((@11) true) ((@12) true) ((@13) true) ((@14) true) ((@15) true) ((@16) true) ((@17) true) ((@18) true) ((@19) true)) false)
 (fun q ((@0 @1 @2 @3 @4 @5 @6 @7 @8 @9 @10 @11 @12 @13 @14 @15 @16 @17 @18 @19 @20)) (((@0) false) ((@1) false) ((@2) false) ((@3) false) ((@4) false) ((@5) false) ((@6) false) ((@7) false) ((@8) false) ((@9) false) ((@10) false) ((@11) false) ((@12) false) ((@13) false) ((@14) false) ((@15) false) ((@16) false) ((@17) false) ((@18) false) ((@19) false)) false)
+)
+",
+};
+
+/// A rule, whose instances make the predicate true of both elements.
+pub const ONE_RULE: Case = Case {
+    script: "(declare-sort S 0)
+(declare-const c S)
+(declare-fun p (S) Bool)
+(assert (forall ((x S)) (p x)))
+(check-sat)
+",
+    answer: "sat
+(model 1
+(sort S 2)
+(fun c () () @0)
+(fun p ((@0 @1)) (((@0) true) ((@1) true)) false)
+)
+",
+};
+
+/// A rule that a constant breaks.
+pub const ONE_INSTANCE: Case = Case {
+    script: "(declare-sort S 0)
+(declare-fun p (S) Bool)
+(declare-const c S)
+(assert (forall ((x S)) (p x)))
+(assert (not (p c)))
+(check-sat)
+",
+    answer: "unsat
+(refutation 1
+(instance 1 () (not (p c)))
+(instance 0 (c) (p c))
+(instance 0 ((@seed S)) (p (@seed S)))
+)
+",
+};
+
+/// Two rules that no element meets, named or not.
+pub const NO_CONSTANTS: Case = Case {
+    script: "(declare-sort S 0)
+(declare-fun p (S) Bool)
+(assert (forall ((x S)) (p x)))
+(assert (forall ((y S)) (not (p y))))
+(check-sat)
+",
+    answer: "unsat
+(refutation 1
+(instance 0 ((@seed S)) (p (@seed S)))
+(instance 1 ((@seed S)) (not (p (@seed S))))
+)
+",
+};
+
+/// A rule over two variables, whose one false instance is enough.
+pub const SYMMETRIC: Case = Case {
+    script: "(declare-sort S 0)
+(declare-const a S)
+(declare-const b S)
+(declare-fun r (S S) Bool)
+(assert (forall ((x S) (y S)) (or (not (r x y)) (r y x))))
+(assert (r a b))
+(assert (not (r b a)))
+(check-sat)
+",
+    answer: "unsat
+(refutation 1
+(instance 1 () (r a b))
+(instance 2 () (not (r b a)))
+(instance 0 (a b) (or (not (r a b)) (r b a)))
+)
+",
+};
+
+/// A symmetric and transitive relation, which joins three constants and nothing else.
+pub const JOINED: Case = Case {
+    script: "(declare-sort S 0)
+(declare-const a S)
+(declare-const b S)
+(declare-const c S)
+(declare-fun r (S S) Bool)
+(assert (forall ((x S) (y S)) (or (not (r x y)) (r y x))))
+(assert (forall ((x S) (y S) (z S)) (or (not (r x y)) (not (r y z)) (r x z))))
+(assert (r a b))
+(assert (r b c))
+(check-sat)
+",
+    answer: "sat
+(model 1
+(sort S 4)
+(fun a () () @0)
+(fun b () () @1)
+(fun c () () @2)
+(fun r ((@0 @1 @2 @3) (@0 @1 @2 @3)) (((@0 @0) true) ((@0 @1) true) ((@0 @2) true) ((@1 @0) true) ((@1 @1) true) ((@1 @2) true) ((@2 @0) true) ((@2 @1) true) ((@2 @2) true)) false)
+)
+",
+};
+
+/// The same relation, where two of the constants are to stay apart.
+pub const TORN: Case = Case {
+    script: "(declare-sort S 0)
+(declare-const a S)
+(declare-const b S)
+(declare-const c S)
+(declare-fun r (S S) Bool)
+(assert (forall ((x S) (y S)) (or (not (r x y)) (r y x))))
+(assert (forall ((x S) (y S) (z S)) (or (not (r x y)) (not (r y z)) (r x z))))
+(assert (r a b))
+(assert (r b c))
+(assert (not (r a c)))
+(check-sat)
+",
+    answer: "unsat
+(refutation 1
+(instance 2 () (r a b))
+(instance 3 () (r b c))
+(instance 4 () (not (r a c)))
+(instance 0 (a b) (or (not (r a b)) (r b a)))
+(instance 0 (b c) (or (not (r b c)) (r c b)))
+(instance 1 (a b c) (or (not (r a b)) (not (r b c)) (r a c)))
+)
+",
+};
+
+/// Three rules, the last of which fails first where the other two have been met.
+pub const THREE_RULES: Case = Case {
+    script: "(declare-sort S 0)
+(declare-const a S)
+(declare-fun p (S) Bool)
+(declare-fun q (S) Bool)
+(declare-fun r (S) Bool)
+(declare-fun s (S) Bool)
+(assert (p a))
+(assert (forall ((x S)) (or (not (p x)) (q x))))
+(assert (forall ((x S)) (or (not (p x)) (r x))))
+(assert (forall ((x S)) (or (not (q x)) (not (r x)) (s x))))
+(check-sat)
+",
+    answer: "sat
+(model 1
+(sort S 2)
+(fun a () () @0)
+(fun p ((@0 @1)) (((@0) true)) false)
+(fun q ((@0 @1)) (((@0) true)) false)
+(fun r ((@0 @1)) (((@0) true)) false)
+(fun s ((@0 @1)) (((@0) true)) false)
+)
+",
+};
+
+/// A variable with a constant's name: the inner one counts.
+pub const INNER_NAME: Case = Case {
+    script: "(declare-sort S 0)
+(declare-const x S)
+(declare-const y S)
+(declare-fun p (S) Bool)
+(assert (forall ((x S)) (p x)))
+(assert (not (p y)))
+(check-sat)
+",
+    answer: "unsat
+(refutation 1
+(instance 1 () (not (p y)))
+(instance 0 (x) (p x))
+(instance 0 (y) (p y))
+(instance 0 ((@seed S)) (p (@seed S)))
 )
 ",
 };

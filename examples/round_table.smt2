@@ -1,0 +1,15 @@
+; A seating: whoever sits beside a guest has that guest beside him too, no one sits beside himself, and no one who hosts sits beside another
+; host. Ann hosts and sits beside Bea, and Carl sits beside her on the other side.
+(declare-sort Guest 0)
+(declare-const ann Guest)
+(declare-const bea Guest)
+(declare-const carl Guest)
+(declare-fun beside (Guest Guest) Bool)
+(declare-fun hosts (Guest) Bool)
+(assert (forall ((x Guest) (y Guest)) (or (not (beside x y)) (beside y x))))
+(assert (forall ((x Guest)) (not (beside x x))))
+(assert (forall ((x Guest) (y Guest)) (or (not (beside x y)) (not (hosts x)) (not (hosts y)))))
+(assert (hosts ann))
+(assert (beside ann bea))
+(assert (beside ann carl))
+(check-sat)
