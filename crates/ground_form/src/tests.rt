@@ -78,10 +78,7 @@ fn literal(
     requires constants { All (NamesConstant functions.now) constants.now }
     ensures { IfOk result (IsLiteral functions.now (IsGround functions.now)) }
 {
-    let atom = Formula::Atom(Term::Apply(
-        Symbol::Declared(number),
-        terms(alloc, constants)?,
-    ));
+    let atom = Formula::Atom(Term::Apply(Symbol::Declared(number), terms(alloc, constants)?));
     if yes {
         return Ok(atom);
     }
