@@ -1,14 +1,12 @@
-; A colouring: three towns of which each borders the two others, and two colours. Each town has one, and two that border have two.
+; A colouring: two towns border, and one of them is red. Each town is red or blue, and no two that border are of one colour.
 (declare-sort Town 0)
 (declare-const aston Town)
 (declare-const burgh Town)
-(declare-const corby Town)
 (declare-fun borders (Town Town) Bool)
 (declare-fun red (Town) Bool)
 (declare-fun blue (Town) Bool)
 (assert (borders aston burgh))
-(assert (borders burgh corby))
-(assert (borders corby aston))
+(assert (red aston))
 (assert (forall ((x Town)) (or (red x) (blue x))))
 (assert (forall ((x Town) (y Town)) (or (not (borders x y)) (not (red x)) (not (red y)))))
 (assert (forall ((x Town) (y Town)) (or (not (borders x y)) (not (blue x)) (not (blue y)))))

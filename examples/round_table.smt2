@@ -1,5 +1,5 @@
-; A seating: whoever sits beside a guest has that guest beside him too, no one sits beside himself, and no one who hosts sits beside another
-; host. Ann hosts and sits beside Bea, and Carl sits beside her on the other side.
+; A seating: whoever sits beside a guest has that guest beside them too, no one sits beside themselves, and no two hosts sit side by
+; side. Ann hosts, and Bea and Carl sit beside her.
 (declare-sort Guest 0)
 (declare-const ann Guest)
 (declare-const bea Guest)

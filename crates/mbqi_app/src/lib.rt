@@ -14,4 +14,5 @@ mod tell;
 #[cfg(test)]
 mod tests;
 
+pub use mbqi_loop::{Journal, Outcome, Round, solve_rules};
 pub use program::run;

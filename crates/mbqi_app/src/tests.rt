@@ -3,10 +3,12 @@
 
 ghost use Rattle.std.specs.Prelude.{◌≡◌, ◌<◌};
 
+mod examples;
 mod scripts;
 
-use crate::run;
+use crate::{Journal, Outcome, run, solve_rules};
 use crate::tests::scripts::Case;
+use first_profile::read_script;
 use mbqi_edge::{FetchFault, MemoryShelf, MemorySink, Shelf};
 use mbqi_values::{FaultKind, Numbers, Refusal, Status, Steps, Text, Texts};
 use std::alloc::{AllocError, Global};
@@ -158,7 +160,7 @@ fn scripts_have_models(rt: HostRuntime) -> Result<(), Fail> {
 }
 
 /// The scripts with assertions.
-const DECIDED: [&Case; 16] = [
+const DECIDED: [&Case; 22] = [
     &scripts::CONTRADICTING_UNITS,
     &scripts::BROKEN_CHAIN,
     &scripts::CHAIN,
@@ -175,6 +177,12 @@ const DECIDED: [&Case; 16] = [
     &scripts::TORN,
     &scripts::THREE_RULES,
     &scripts::INNER_NAME,
+    &examples::ROUND_TABLE,
+    &examples::COLOURING,
+    &examples::LOCK_CYCLE,
+    &examples::REACHABLE,
+    &examples::ACCESS_RULE,
+    &examples::OVERTAKING,
 ];
 
 #[test]
@@ -296,6 +304,50 @@ fn reserved_words_are_no_names(rt: HostRuntime) -> Result<(), Fail> {
     for word in RESERVED.split_whitespace() {
         let script = format!(in alloc; "(declare-sort {word} 0)")?;
         assert!(rt; is_outside(alloc, script.as_str())?, "{word}");
+    }
+    Ok(())
+}
+
+/// How many choices each round adds in the answer to a script: none where the script is refused.
+fn added_counts<L: Ledger>(
+    alloc: Global,
+    text: &str,
+    blank: Blank,
+) -> Result<Vec<usize>, AllocError>
+    requires name { blank.name ≡ L.name }
+    requires parts { blank.parts ≡ L.parts }
+    requires some { 0 < blank.parts }
+{
+    let Ok(script) = read_script(alloc, text.as_bytes()) else {
+        return Ok(Vec::new(alloc));
+    };
+    let mut steps = Steps::<L>::new(blank);
+    match solve_rules(alloc, &script, &mut steps)? {
+        Outcome::Sat(_, journal) => counts_of(alloc, &journal),
+        Outcome::Unsat(_, journal) => counts_of(alloc, &journal),
+    }
+}
+
+fn counts_of(alloc: Global, journal: &Journal) -> Result<Vec<usize>, AllocError> {
+    let mut counts = Vec::new(alloc);
+    for round in journal.as_slice() {
+        counts.push(round.added.len())?;
+    }
+    Ok(counts)
+}
+
+#[test]
+fn rounds_add_the_instances_that_fail(rt: HostRuntime) -> Result<(), Fail> {
+    let alloc = rt.alloc();
+    let rows: [(&Case, &[usize]); 4] = [
+        (&scripts::ONE_INSTANCE, &[2]),
+        (&scripts::THREE_RULES, &[2, 1, 0]),
+        (&scripts::TORN, &[3]),
+        (&scripts::NO_CONSTANTS, &[1, 1]),
+    ];
+    for (case, added) in rows {
+        let counts = added_counts::<Brand>(alloc, case.script, Blank::new(1))?;
+        assert_eq!(rt; counts.as_slice(), added);
     }
     Ok(())
 }
