@@ -1,11 +1,12 @@
 #!/usr/bin/env python3
-"""Times `solve` on ground scripts of several shapes and sizes, and z3 beside it where it is there.
+"""Times `solve` on scripts of several shapes and sizes, and z3 beside it where it is there.
 
     bench/ground.py [COMMAND..]
 
 COMMAND is run with the file's name behind it, and `./mbqi solve` where none is given. A line tells the seconds of one run at
 each size. Declarations are looked up one by one and each decision looks over all clauses, so the time of a chain grows with the
-square of its length at least; pigeons take exponential time. The scripts are made in a folder of their own, which is deleted
+square of its length at least; pigeons take exponential time. The last shapes have quantifiers: steps follow one another by a rule, and a
+relation is closed under two rules, one of them over three variables. Each round tries all tuples. The scripts are made in a folder of their own, which is deleted
 at the end. It is no part of the gate.
 """
 import itertools
@@ -53,11 +54,29 @@ def pigeons(count):
     return script(names, holes, somewhere + apart)
 
 
+def steps(count):
+    names = [f"c{i}" for i in range(count)]
+    links = [f"(r {a} {b})" for a, b in itertools.pairwise(names)]
+    rule = "(forall ((x S) (y S)) (or (not (p x)) (not (r x y)) (p y)))"
+    text = script(names, ["p"], ["(p c0)", rule] + links)
+    return text.replace("(declare-fun p (S) Bool)", "(declare-fun p (S) Bool)\n(declare-fun r (S S) Bool)")
+
+
+def closed(count):
+    names = [f"c{i}" for i in range(count)]
+    links = [f"(r {a} {b})" for a, b in itertools.pairwise(names)]
+    rules = ["(forall ((x S) (y S)) (or (not (r x y)) (r y x)))",
+             "(forall ((x S) (y S) (z S)) (or (not (r x y)) (not (r y z)) (r x z)))"]
+    return script(names, ["p"], rules + links).replace("fun p (S)", "fun r (S S)")
+
+
 SHAPES = [
     ("units", units, [100, 200, 400, 800]),
     ("chain", chain, [100, 200, 400, 800]),
     ("broken chain", broken_chain, [100, 200, 400, 800]),
     ("pigeons", pigeons, [3, 4, 5, 6]),
+    ("steps", steps, [10, 20, 40]),
+    ("closed relation", closed, [4, 8, 16]),
 ]
 
 

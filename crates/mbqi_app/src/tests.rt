@@ -328,6 +328,10 @@ fn added_counts<L: Ledger>(
     }
 }
 
+fn rounds_of(alloc: Global, text: &str) -> Result<Vec<usize>, AllocError> {
+    added_counts::<Brand>(alloc, text, Blank::new(1))
+}
+
 fn counts_of(alloc: Global, journal: &Journal) -> Result<Vec<usize>, AllocError> {
     let mut counts = Vec::new(alloc);
     for round in journal.as_slice() {
@@ -346,7 +350,7 @@ fn rounds_add_the_instances_that_fail(rt: HostRuntime) -> Result<(), Fail> {
         (&scripts::NO_CONSTANTS, &[1, 1]),
     ];
     for (case, added) in rows {
-        let counts = added_counts::<Brand>(alloc, case.script, Blank::new(1))?;
+        let counts = rounds_of(alloc, case.script)?;
         assert_eq!(rt; counts.as_slice(), added);
     }
     Ok(())
