@@ -2,14 +2,16 @@
 //! and that a call succeeds where memory is ample.
 
 ghost use Rattle.std.specs.Prelude.{◌≡◌, ◌<◌};
+ghost use Rattle.ground_form.specs.Profile.{IsElementary};
 
 mod examples;
 mod scripts;
 
-use crate::{Journal, Outcome, run, solve_rules};
 use crate::tests::scripts::Case;
+use crate::{Journal, Outcome, run, solve_rules};
 use first_profile::read_script;
 use mbqi_edge::{FetchFault, MemoryShelf, MemorySink, Shelf};
+use mbqi_terms::Script;
 use mbqi_values::{FaultKind, Numbers, Refusal, Status, Steps, Text, Texts};
 use std::alloc::{AllocError, Global};
 use std::marker::Brand;
@@ -308,34 +310,41 @@ fn reserved_words_are_no_names(rt: HostRuntime) -> Result<(), Fail> {
     Ok(())
 }
 
-/// How many choices each round adds in the answer to a script: none where the script is refused.
-fn added_counts<L: Ledger>(
+/// How many choices each round adds in the answer to a script, with a counter of its own: whether memory was enough.
+fn count_added<L: Ledger>(
     alloc: Global,
-    text: &str,
+    script: &Script,
+    counts: &mut Vec<usize>,
     blank: Blank,
-) -> Result<Vec<usize>, AllocError>
+) -> bool
+    requires elementary { IsElementary script.now }
     requires name { blank.name ≡ L.name }
     requires parts { blank.parts ≡ L.parts }
     requires some { 0 < blank.parts }
 {
-    let Ok(script) = read_script(alloc, text.as_bytes()) else {
-        return Ok(Vec::new(alloc));
-    };
     let mut steps = Steps::<L>::new(blank);
-    match solve_rules(alloc, &script, &mut steps)? {
-        Outcome::Sat(_, journal) => counts_of(alloc, &journal),
-        Outcome::Unsat(_, journal) => counts_of(alloc, &journal),
+    match solve_rules(alloc, script, &mut steps) {
+        Ok(Outcome::Sat(_, journal)) => push_counts(&journal, counts).is_ok(),
+        Ok(Outcome::Unsat(_, journal)) => push_counts(&journal, counts).is_ok(),
+        Err(_) => false,
     }
 }
 
-fn rounds_of(alloc: Global, text: &str) -> Result<Vec<usize>, AllocError> {
-    added_counts::<Brand>(alloc, text, Blank::new(1))
-}
-
-fn counts_of(alloc: Global, journal: &Journal) -> Result<Vec<usize>, AllocError> {
-    let mut counts = Vec::new(alloc);
+fn push_counts(journal: &Journal, counts: &mut Vec<usize>) -> Result<(), AllocError> {
     for round in journal.as_slice() {
         counts.push(round.added.len())?;
+    }
+    Ok(())
+}
+
+/// The same for a text: nothing where it is refused.
+fn rounds_of(alloc: Global, text: &str) -> Result<Vec<usize>, AllocError> {
+    let mut counts = Vec::new(alloc);
+    if let Ok(script) = read_script(alloc, text.as_bytes()) {
+        let is_whole = count_added::<Brand>(alloc, &script, &mut counts, Blank::new(1));
+        if !is_whole {
+            return Err(AllocError);
+        }
     }
     Ok(counts)
 }
