@@ -1,0 +1,4 @@
+pub mod Arities
+pub mod Ends
+pub mod Subtractions
+pub mod MapLaws
