@@ -1,0 +1,6 @@
+mod ArgumentsRead
+mod Bindings
+mod Definitions
+mod Ends
+mod Numerals
+mod PlanLaws

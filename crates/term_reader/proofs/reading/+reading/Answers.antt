@@ -1,0 +1,63 @@
+-- One more argument or binding was read, or the first fault was found.
+use Rattle.std.proofs.Common.{◌≡◌, ◌+◌, drop, List, [], ◌∷◌, map, Ok, ◌∙◌, refl, ap, arith}
+use Rattle.std.proofs.lemmas.List.{map-append}
+use Rattle.std.proofs.lemmas.Result.{err_from_is_err_and}
+use Rattle.std.proofs.lemmas.Grind.{common_steps}
+use Rattle.sexpr_text.specs.declared.tree.Sexpr.{Sexpr}
+use Rattle.smtlib_terms.specs.Reading.{meant_by, part_of, binder_name, trees_in}
+use Rattle.term_operators.specs.Measured.{meaning_of, meanings_of}
+use Rattle.term_reader.specs.Plans.{arguments_behind, binding_among, bindings_behind}
+use Rattle.term_reader.specs.Scopes.{signature_of, binding_of, bindings_of, names_in}
+use Rattle.term_reader.proofs.ArgumentsRead.{arguments_end, arguments_faulty, arguments_start, arguments_step, bindings_end, bindings_faulty, bindings_start, bindings_step}
+use Rattle.term_reader.proofs.Ends.{bindings_end as one_more, names_end}
+use Rattle.term_reader.proofs.reading.+reading.Goals as goal
+
+pub read_arguments-loop-part-init : goal.read_arguments-loop-part-init
+read_arguments-loop-part-init t c = (refl, rw (c.new-args.ensures) (arguments_start c.args.counted (map part_of c.args.parts.now) (signature_of c.args.names.now c.args.macros.now) c.args.scope.now c.args.next))
+
+pub read_arguments-returns-in_err-m-clause-meant : goal.read_arguments-returns-in_err-m-clause-meant
+read_arguments-returns-in_err-m-clause-meant t c =
+    let at : drop c.loop-part.part-index c.args.parts.now ≡ c.part-item.result ∷ drop (c.loop-part.part-index + 1) c.args.parts.now = grind (arith, common_steps) in
+    let read = rw c.loop-part.invariant.0 at c.in_err-m.ensures.meant in
+    let whole = c.loop-part.invariant.1 ∙ ap (λ (ts : List Sexpr). arguments_behind (meanings_of c.loop-part.args) c.args.counted (map part_of ts) (signature_of c.args.names.now c.args.macros.now) c.args.scope.now c.loop-part.next) at in
+    let p = err_from_is_err_and c.from_residual.result c.from_residual.ensures.1 in
+    rw (p.1, p.2, whole) (arguments_faulty _ (meanings_of c.loop-part.args) c.args.counted (part_of c.part-item.result) (map part_of (drop (c.loop-part.part-index + 1) c.args.parts.now)) (signature_of c.args.names.now c.args.macros.now) c.args.scope.now c.loop-part.next read)
+
+pub read_arguments-loop-part-preserved : goal.read_arguments-loop-part-preserved
+read_arguments-loop-part-preserved t c =
+    let at : drop c.loop-part.part-index c.args.parts.now ≡ c.part-item.result ∷ drop (c.loop-part.part-index + 1) c.args.parts.now = grind (arith, common_steps) in
+    let read : meant_by c.part-item.result (signature_of c.args.names.now c.args.macros.now) c.args.scope.now c.loop-part.next ≡ Ok (meaning_of c.in_ok-m.m) = rw c.loop-part.invariant.0 at c.in_ok-m.ensures.meant in
+    let rest = arguments_step (meanings_of c.loop-part.args) c.args.counted (part_of c.part-item.result) (map part_of (drop (c.loop-part.part-index + 1) c.args.parts.now)) (signature_of c.args.names.now c.args.macros.now) c.args.scope.now c.loop-part.next (meaning_of c.in_ok-m.m) read in
+    let whole = c.loop-part.invariant.1 ∙ ap (λ (ts : List Sexpr). arguments_behind (meanings_of c.loop-part.args) c.args.counted (map part_of ts) (signature_of c.args.names.now c.args.macros.now) c.args.scope.now c.loop-part.next) at ∙ rest in
+    (c.in_ok-m.ensures.scope ∙ c.loop-part.invariant.0, rw (c.in_ok-push.ensures.ok, map-append, c.in_ok-following.ensures, c.counted_variables.ensures) whole)
+
+pub read_arguments-returns-clause-meant : goal.read_arguments-returns-clause-meant
+read_arguments-returns-clause-meant t c =
+    let done : drop c.loop-part.part-index c.args.parts.now ≡ [] = grind (arith, common_steps) in
+    c.loop-part.invariant.1 ∙ ap (λ (ts : List Sexpr). arguments_behind (meanings_of c.loop-part.args) c.args.counted (map part_of ts) (signature_of c.args.names.now c.args.macros.now) c.args.scope.now c.loop-part.next) done
+    ∙ arguments_end (meanings_of c.loop-part.args) c.args.counted (signature_of c.args.names.now c.args.macros.now) c.args.scope.now c.loop-part.next
+
+pub read_bindings-loop-tree-init : goal.read_bindings-loop-tree-init
+read_bindings-loop-tree-init t c = (refl, rw (c.new-bindings.ensures) (bindings_start c.args.trees.now (signature_of c.args.names.now c.args.macros.now) c.args.scope.now c.args.next))
+
+pub read_bindings-returns-in_err-binding-clause-meant : goal.read_bindings-returns-in_err-binding-clause-meant
+read_bindings-returns-in_err-binding-clause-meant t c =
+    let at : drop c.loop-tree.tree-index c.args.trees.now ≡ c.tree-item.result ∷ drop (c.loop-tree.tree-index + 1) c.args.trees.now = grind (arith, common_steps) in
+    let read = rw (c.loop-tree.invariant.0, c.as_slice-before.ensures) at c.in_err-binding.ensures.meant in
+    let whole = c.loop-tree.invariant.1 ∙ ap (λ (ts : List Sexpr). bindings_behind (bindings_of c.loop-tree.bindings) ts (signature_of c.args.names.now c.args.macros.now) c.args.scope.now c.args.next (names_in c.loop-tree.bindings)) at in
+    let p = err_from_is_err_and c.from_residual.result c.from_residual.ensures.1 in
+    rw (p.1, p.2, whole) (bindings_faulty _ (bindings_of c.loop-tree.bindings) c.tree-item.result (drop (c.loop-tree.tree-index + 1) c.args.trees.now) (signature_of c.args.names.now c.args.macros.now) c.args.scope.now c.args.next (names_in c.loop-tree.bindings) read)
+
+pub read_bindings-loop-tree-preserved : goal.read_bindings-loop-tree-preserved
+read_bindings-loop-tree-preserved t c =
+    let at : drop c.loop-tree.tree-index c.args.trees.now ≡ c.tree-item.result ∷ drop (c.loop-tree.tree-index + 1) c.args.trees.now = grind (arith, common_steps) in
+    let read : binding_among (trees_in c.tree-item.result) (binder_name c.tree-item.result) (signature_of c.args.names.now c.args.macros.now) c.args.scope.now c.args.next (names_in c.loop-tree.bindings) ≡ Ok (binding_of c.in_ok-binding.binding) = rw (c.loop-tree.invariant.0, c.as_slice-before.ensures) at c.in_ok-binding.ensures.meant in
+    let rest = bindings_step (bindings_of c.loop-tree.bindings) c.tree-item.result (drop (c.loop-tree.tree-index + 1) c.args.trees.now) (signature_of c.args.names.now c.args.macros.now) c.args.scope.now c.args.next (names_in c.loop-tree.bindings) (binding_of c.in_ok-binding.binding) read in
+    let whole = c.loop-tree.invariant.1 ∙ ap (λ (ts : List Sexpr). bindings_behind (bindings_of c.loop-tree.bindings) ts (signature_of c.args.names.now c.args.macros.now) c.args.scope.now c.args.next (names_in c.loop-tree.bindings)) at ∙ rest in
+    (c.in_ok-binding.ensures.scope ∙ c.loop-tree.invariant.0, rw (c.in_ok-push.ensures.ok, one_more, names_end) whole)
+
+pub read_bindings-returns-clause-meant : goal.read_bindings-returns-clause-meant
+read_bindings-returns-clause-meant t c =
+    let done : drop c.loop-tree.tree-index c.args.trees.now ≡ [] = grind (arith, common_steps) in
+    c.loop-tree.invariant.1 ∙ ap (λ (ts : List Sexpr). bindings_behind (bindings_of c.loop-tree.bindings) ts (signature_of c.args.names.now c.args.macros.now) c.args.scope.now c.args.next (names_in c.loop-tree.bindings)) done
+    ∙ bindings_end (bindings_of c.loop-tree.bindings) (signature_of c.args.names.now c.args.macros.now) c.args.scope.now c.args.next (names_in c.loop-tree.bindings)

@@ -1,0 +1,3 @@
+pub mod Defining
+pub mod Plans
+pub mod Scopes

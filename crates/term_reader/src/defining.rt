@@ -1,0 +1,160 @@
+//! Formulas and macros, by the names that were declared and defined.
+
+ghost use Rattle.std.specs.Prelude.{◌≡◌, [], Ok, IfErr};
+ghost use Rattle.smtlib_terms.specs.Answers.{Answers, Declares, IsFault};
+ghost use Rattle.smtlib_terms.specs.Declaring.{arguments, declarable, definition_read, formula_read, is_function, macro_defined, names_of, opaque_from, reader_of};
+ghost use Rattle.smtlib_terms.specs.Reading.{is_list, meant_by, trees_in};
+ghost use Rattle.term_operators.specs.Measured.{Means, meaning_of};
+ghost use Rattle.term_reader.specs.Defining.{body_meant, definition_checked, macro_described, macro_read, may_define};
+
+use crate::macros::{arguments, opaque_from};
+use crate::reading::read_meaning;
+use crate::scope::Scope;
+use mbqi_terms::{Formula, Sort};
+use mbqi_values::{FaultKind, ReadError, Sequence};
+use sexpr_text::{Sexpr, copy_tree};
+use smtlib_terms::binders::{each_is_binder, is_some_symbol, parameters, text_of, trees_in};
+use smtlib_terms::names::{Macro, Names, Parameters};
+use smtlib_terms::sorts::{is_symbol, refused, sort_of_tree};
+use smtlib_terms::word::is_reserved;
+use std::alloc::Global;
+use term_operators::{MeasuredMeaning, is_sort};
+
+/// How many calls may be nested while a tree is read: as many as there is room for.
+const LEVELS: usize = usize::MAX;
+
+/// What a tree means where nothing is bound.
+fn closed_meaning(
+    alloc: Global,
+    names: &Names,
+    tree: &Sexpr,
+) -> Result<MeasuredMeaning, ReadError>
+    ensures { Means meaning_of result (meant_by tree.now (names_of names.now) [] 0) }
+{
+    let mut scope = Scope::new(alloc);
+    let macros = names.macros.as_slice();
+    read_meaning(alloc, names, macros, &mut scope, tree, 0, LEVELS)
+}
+
+/// The formula that a tree means. Refused: the first fault in the order of docs/DEFINITIONS.md; its place is 0.
+#[tactic(auto, unfolding(smtlib_terms::specs::Declaring::formula_read))]
+pub fn read_formula(alloc: Global, names: &Names, tree: &Sexpr) -> Result<Formula, ReadError>
+    ensures { Answers result (formula_read names.now tree.now) }
+{
+    match closed_meaning(alloc, names, tree)?.into_formula() {
+        Some(f) => Ok(f.into_formula()),
+        None => Err(refused(FaultKind::WrongSort)),
+    }
+}
+
+/// What the body of a macro means, with opaque arguments: as if each parameter were a constant of its sort, numbered
+/// behind the declared functions.
+fn body_meaning(
+    alloc: Global,
+    names: &Names,
+    definition: &Macro,
+) -> Result<MeasuredMeaning, ReadError>
+    ensures { Means meaning_of result (body_meant names.now definition.now) }
+{
+    let bound = definition.parameters.as_slice();
+    let args = opaque_from(alloc, names.functions.len(), bound)?;
+    let mut scope = Scope::new(alloc);
+    scope.enter(arguments(alloc, bound, args, 0)?)?;
+    let macros = names.macros.as_slice();
+    read_meaning(alloc, names, macros, &mut scope, &definition.body, 0, LEVELS)
+}
+
+/// Whether the name and the sort of a macro let it be defined. Refused: ReservedName, Twice where a function or a macro
+/// has the name, WrongSort where the body has another sort than the result.
+fn may_define(names: &Names, definition: &Macro, body: Sort) -> Result<(), ReadError>
+    ensures { Answers result (may_define names.now definition.now body) }
+{
+    let name = definition.name.as_slice();
+    if is_reserved(name) {
+        return Err(refused(FaultKind::ReservedName));
+    }
+    if names.is_function(name) {
+        return Err(refused(FaultKind::Twice));
+    }
+    if !is_sort(definition.result, body) {
+        return Err(refused(FaultKind::WrongSort));
+    }
+    Ok(())
+}
+
+/// Whether a macro may be defined: its body has a meaning, and its name and sort let it.
+fn check_definition(alloc: Global, names: &Names, definition: &Macro) -> Result<(), ReadError>
+    ensures { Answers result (definition_checked names.now definition.now) }
+{
+    let body = body_meaning(alloc, names, definition)?;
+    may_define(names, definition, body.sort())
+}
+
+/// Whether a tree is a list.
+fn is_list(tree: &Sexpr) -> bool
+    ensures { result ≡ is_list tree.now }
+{
+    match tree {
+        Sexpr::List(_) => true,
+        Sexpr::Numeral(_)
+        | Sexpr::Decimal(_)
+        | Sexpr::Hex(_)
+        | Sexpr::Binary(_)
+        | Sexpr::Str(_)
+        | Sexpr::Symbol(_)
+        | Sexpr::Keyword(_) => false,
+    }
+}
+
+/// The macro of a definition of this name.
+fn described(
+    alloc: Global,
+    names: &Names,
+    name: &[u8],
+    bound: &[Sexpr],
+    sort: &Sexpr,
+    body: &Sexpr,
+) -> Result<Macro, ReadError>
+    ensures { Answers result (macro_described names.now name.now bound.now sort.now body.now) }
+{
+    let sorts = names.sorts.as_slice();
+    let parameters = parameters(alloc, sorts, bound)?;
+    let result_sort = sort_of_tree(sorts, sort)?;
+    Ok(Macro {
+        name: Sequence::from_slice(alloc, name)?,
+        parameters,
+        result: result_sort,
+        body: copy_tree(alloc, body)?,
+    })
+}
+
+/// The macro that a definition describes, whether or not it may be defined.
+fn macro_of_tree(alloc: Global, names: &Names, tree: &Sexpr) -> Result<Macro, ReadError>
+    ensures { Answers result (macro_read names.now (trees_in tree.now)) }
+{
+    let [head, name, bound, sort, body] = trees_in(tree) else {
+        return Err(refused(FaultKind::BadForm));
+    };
+    let has_shape = is_symbol(head, b"define-fun")
+        && is_some_symbol(name)
+        && is_list(bound)
+        && each_is_binder(trees_in(bound));
+    if !has_shape {
+        return Err(refused(FaultKind::BadForm));
+    }
+    described(alloc, names, text_of(name), trees_in(bound), sort, body)
+}
+
+/// Defines a macro, `(define-fun f ((x S) ...) S t)`. Refused: BadForm where the tree has another shape, the first fault
+/// of the parameters, the result's sort and the body, then ReservedName, Twice where a function or a macro has the name,
+/// and WrongSort where the body has another sort than the result. After a refusal or want of memory the names are as
+/// before.
+#[tactic(auto, using(crate::proofs::Definitions::defined_laws))]
+pub fn define_macro(alloc: Global, names: &mut Names, tree: &Sexpr) -> Result<(), ReadError>
+    ensures { Declares result names.old names.new (macro_defined names.old tree.now) }
+{
+    let definition = macro_of_tree(alloc, names, tree)?;
+    check_definition(alloc, names, &definition)?;
+    names.macros.push(definition)?;
+    Ok(())
+}

@@ -1,0 +1,489 @@
+//! What trees mean, read from the leaves (SMT-LIB 2.6, section 3.6, in this project's profile and order of kinds).
+//!
+//! The functions call each other, so each takes how many calls may still be nested, which falls with each list and
+//! each macro's body. As many as 2^64 nested calls have no room in memory.
+
+ghost use Rattle.std.specs.Prelude.{◌≡◌, ◌+◌, ◌++◌, List, [], length, map, Result, IfOk, OnOk, if◌then◌else◌};
+ghost use Rattle.std.specs.List.{list_any};
+ghost use Rattle.mbqi_values.specs.declared.fault.FaultKind.{FaultKind};
+ghost use Rattle.smtlib_terms.specs.declared.meaning.Side.{Side};
+ghost use Rattle.smtlib_terms.specs.Answers.{Answers, IsFault};
+ghost use Rattle.smtlib_terms.specs.Applying.{alone, meaning_in_scope, name_applied};
+ghost use Rattle.smtlib_terms.specs.Declaring.{reader_of};
+ghost use Rattle.smtlib_terms.specs.Meaning.{variables_of};
+ghost use Rattle.smtlib_terms.specs.Operators.{two_sides};
+ghost use Rattle.smtlib_terms.specs.Reading.{bindable, binder_name, body_read, first_read, list_read, meant_by, part_of, side, trees_in};
+ghost use Rattle.term_operators.specs.Measured.{Means, meaning_of, meanings_of, side_of};
+ghost use Rattle.term_reader.specs.Plans.{arguments_read, binding_among, bindings_among, let_planned, macro_applied, only_part, operator_read, planned, quantifier_planned, truth_named};
+ghost use Rattle.smtlib_terms.specs.Words.{is_text};
+ghost use Rattle.term_reader.specs.Scopes.{binding_of, bindings_of, bound_of, names_in, signature_of};
+
+use crate::macros::{Found, arguments, macro_named, sorts_of};
+use crate::making::{made, plainly, quantified, shallow};
+use crate::numeral::numeral;
+use crate::plan::{Plan, plan_of};
+use crate::scope::{Binding, Bindings, Bound, Scope, meaning_in_scope, variable_bindings};
+use mbqi_values::{FaultKind, ReadError, Sequence, Text};
+use measured_terms::MeasuredFormula;
+use sexpr_text::Sexpr;
+use smtlib_terms::binders::{text_of, trees_in};
+use smtlib_terms::names::{Macro, Names, Variables};
+use smtlib_terms::sorts::refused;
+use smtlib_terms::word::{Word, is_reserved};
+use std::alloc::{AllocError, Global};
+use term_operators::{
+    Meanings, MeasuredMeaning, MeasuredSide, function_applied, have_sorts, two_sides,
+};
+
+/// How many calls may be nested in a call.
+fn fewer(levels: usize) -> Result<usize, AllocError>
+    ensures { IfOk result (λ n. n + 1 ≡ levels) }
+{
+    levels.checked_sub(1).ok_or(AllocError)
+}
+
+/// The place behind so many variables. As many as 2^64 have no room in memory.
+fn place_behind(next: usize, variables: usize) -> Result<usize, AllocError>
+    ensures { IfOk result (λ n. n ≡ next + variables) }
+{
+    next.checked_add(variables).ok_or(AllocError)
+}
+
+/// How many variables count behind an argument: those of its quantifiers, where they are counted.
+fn counted_variables(counted: bool, m: &MeasuredMeaning) -> usize
+    ensures { result ≡ (if counted then variables_of (meaning_of m.now) else 0) }
+{
+    if counted { m.variables() } else { 0 }
+}
+
+/// `true` or `false`.
+fn truth_named(text: &[u8]) -> Option<bool>
+    ensures { result ≡ truth_named text.now }
+{
+    if text == b"true".as_slice() {
+        Some(true)
+    } else if text == b"false".as_slice() {
+        Some(false)
+    } else {
+        None
+    }
+}
+
+/// Whether one of the bindings binds the name.
+fn is_bound(bindings: &[Binding], name: &[u8]) -> bool
+    ensures { result ≡ list_any (λ b. is_text b.name name.now) bindings.now }
+{
+    bindings.iter().any(|b| b.name.as_slice() == name)
+}
+
+/// The name that a binding binds, which may not be reserved or among those bound before in one list.
+#[tactic(auto, using(crate::proofs::Ends::any_name))]
+fn bound_name(alloc: Global, tree: &Sexpr, before: &[Binding]) -> Result<Text, ReadError>
+    ensures { Answers result (bindable (binder_name tree.now) (names_in before.now)) }
+{
+    let name = match trees_in(tree) {
+        [first, ..] => text_of(first),
+        [] => &[],
+    };
+    if is_reserved(name) {
+        return Err(refused(FaultKind::ReservedName));
+    }
+    if is_bound(before, name) {
+        return Err(refused(FaultKind::Twice));
+    }
+    Ok(Sequence::from_slice(alloc, name)?)
+}
+
+/// The fault of an atom whose second side has one. A difference is at fault before what stands behind it.
+fn second_fault(left: &MeasuredSide, error: ReadError) -> ReadError
+    ensures { (meant : Result Side FaultKind) → IsFault error meant → IsFault result (two_sides (side_of left.now) meant) }
+{
+    match error {
+        ReadError::Memory => ReadError::Memory,
+        ReadError::Refused(refusal) => match left {
+            MeasuredSide::Meant(_) => ReadError::Refused(refusal),
+            MeasuredSide::Difference(_, _) => refused(FaultKind::NotDifference),
+        },
+    }
+}
+
+/// A name in scope, behind which no arguments may stand.
+fn bound_alone(
+    alloc: Global,
+    next: usize,
+    bound: &Bound,
+    args: &[MeasuredMeaning],
+) -> Result<MeasuredMeaning, ReadError>
+    ensures { Means meaning_of result (alone (meanings_of args.now) (meaning_in_scope next (bound_of bound.now))) }
+{
+    match args {
+        [] => Ok(meaning_in_scope(alloc, next, bound)?),
+        [_, ..] => Err(refused(FaultKind::WrongCount)),
+    }
+}
+
+/// The meaning of a body, which is the one part.
+fn only(parts: &[Sexpr], body: MeasuredMeaning) -> Result<MeasuredMeaning, ReadError>
+    ensures { Means meaning_of result (only_part (map part_of parts.now) (meaning_of body)) }
+{
+    match parts {
+        [_] => Ok(body),
+        _ => Err(refused(FaultKind::WrongCount)),
+    }
+}
+
+/// A macro with its arguments, and the macros that its body may apply.
+#[cycle(reading)]
+fn read_macro(
+    alloc: Global,
+    names: &Names,
+    before: &[Macro],
+    definition: &Macro,
+    args: Meanings,
+    next: usize,
+    levels: usize,
+) -> Result<MeasuredMeaning, ReadError>
+    ensures { Means meaning_of result (macro_applied (reader_of (signature_of names.now before.now) definition.now) (meanings_of args) next) }
+{
+    let below = fewer(levels)?;
+    let parameters = definition.parameters.as_slice();
+    let sorts = sorts_of(alloc, parameters)?;
+    if args.len() != sorts.len() {
+        return Err(refused(FaultKind::WrongCount));
+    }
+    if !have_sorts(sorts.as_slice(), args.as_slice()) {
+        return Err(refused(FaultKind::WrongSort));
+    }
+    let mut scope = Scope::new(alloc);
+    scope.enter(arguments(alloc, parameters, args, next)?)?;
+    read_meaning(alloc, names, before, &mut scope, &definition.body, next, below)
+}
+
+/// A name with its arguments, by its innermost binding.
+#[cycle(reading)]
+fn read_name(
+    alloc: Global,
+    names: &Names,
+    macros: &[Macro],
+    scope: &Scope,
+    name: &[u8],
+    next: usize,
+    args: Meanings,
+    levels: usize,
+) -> Result<MeasuredMeaning, ReadError>
+    ensures { Means meaning_of result (name_applied (signature_of names.now macros.now) scope.now name.now next (meanings_of args)) }
+{
+    if let Some(bound) = scope.find(name) {
+        return bound_alone(alloc, next, bound, args.as_slice());
+    }
+    match macro_named(names, macros, name) {
+        Some(found) => {
+            let Found { before, definition } = found;
+            read_macro(alloc, names, before, definition, args, next, levels)
+        }
+        None => function_applied(alloc, names.functions.as_slice(), name, args),
+    }
+}
+
+/// What a tree means where no difference may stand.
+#[cycle(reading)]
+pub fn read_meaning(
+    alloc: Global,
+    names: &Names,
+    macros: &[Macro],
+    scope: &mut Scope,
+    tree: &Sexpr,
+    next: usize,
+    levels: usize,
+) -> Result<MeasuredMeaning, ReadError>
+    ensures meant { Means meaning_of result (meant_by tree.now (signature_of names.now macros.now) scope.old next) }
+    ensures scope { OnOk result (scope.new ≡ scope.old) }
+{
+    let side = read_side(alloc, names, macros, scope, tree, next, levels)?;
+    plainly(side)
+}
+
+/// The first part, behind which others may stand.
+#[cycle(reading)]
+fn read_first(
+    alloc: Global,
+    names: &Names,
+    macros: &[Macro],
+    scope: &mut Scope,
+    parts: &[Sexpr],
+    next: usize,
+    levels: usize,
+) -> Result<MeasuredMeaning, ReadError>
+    ensures meant { Means meaning_of result (first_read (map part_of parts.now) (signature_of names.now macros.now) scope.old next) }
+    ensures scope { OnOk result (scope.new ≡ scope.old) }
+{
+    let [first, ..] = parts else {
+        return Err(refused(FaultKind::WrongCount));
+    };
+    read_meaning(alloc, names, macros, scope, first, next, levels)
+}
+
+/// The body behind bindings or binders, in their scope: one part, behind which nothing stands.
+#[cycle(reading)]
+fn read_body(
+    alloc: Global,
+    names: &Names,
+    macros: &[Macro],
+    scope: &mut Scope,
+    bindings: Bindings,
+    parts: &[Sexpr],
+    next: usize,
+    levels: usize,
+) -> Result<MeasuredMeaning, ReadError>
+    ensures meant { Means meaning_of result (body_read (map part_of parts.now) (signature_of names.now macros.now) (bindings_of bindings ++ scope.old) next) }
+    ensures scope { OnOk result (scope.new ≡ scope.old) }
+{
+    let outside = scope.len();
+    scope.enter(bindings)?;
+    let body = read_first(alloc, names, macros, scope, parts, next, levels)?;
+    scope.leave(outside);
+    only(parts, body)
+}
+
+/// The arguments behind a head, up to the first fault. Their variables are counted one behind the other, or each
+/// argument's from the same place on.
+#[cycle(reading)]
+fn read_arguments(
+    alloc: Global,
+    names: &Names,
+    macros: &[Macro],
+    scope: &mut Scope,
+    parts: &[Sexpr],
+    counted: bool,
+    next: usize,
+    levels: usize,
+) -> Result<Meanings, ReadError>
+    ensures meant { Means meanings_of result (arguments_read counted (map part_of parts.now) (signature_of names.now macros.now) scope.old next) }
+    ensures scope { OnOk result (scope.new ≡ scope.old) }
+{
+    let mut next = next;
+    let mut args = Sequence::new(alloc);
+    for part in parts {
+        let m = read_meaning(alloc, names, macros, scope, part, next, levels)?;
+        let following = place_behind(next, counted_variables(counted, &m))?;
+        next = following;
+        args.push(m)?;
+    }
+    Ok(args)
+}
+
+/// The arguments of an operator. The two sides of an atom, which are paired, may have a difference.
+#[cycle(reading)]
+fn read_operands(
+    alloc: Global,
+    names: &Names,
+    macros: &[Macro],
+    scope: &mut Scope,
+    parts: &[Sexpr],
+    paired: bool,
+    next: usize,
+    levels: usize,
+) -> Result<Meanings, ReadError>
+    ensures meant { Means meanings_of result (operator_read paired (map part_of parts.now) (signature_of names.now macros.now) scope.old next) }
+    ensures scope { OnOk result (scope.new ≡ scope.old) }
+{
+    let [first, second] = parts else {
+        return read_arguments(alloc, names, macros, scope, parts, true, next, levels);
+    };
+    if !paired {
+        return read_arguments(alloc, names, macros, scope, parts, true, next, levels);
+    }
+    let left = read_side(alloc, names, macros, scope, first, next, levels)?;
+    let behind = place_behind(next, left.variables())?;
+    match read_side(alloc, names, macros, scope, second, behind, levels) {
+        Ok(right) => two_sides(alloc, left, right),
+        Err(error) => Err(second_fault(&left, error)),
+    }
+}
+
+/// A binding of a `let`, whose name is none of those bound before.
+#[cycle(reading)]
+fn read_binding(
+    alloc: Global,
+    names: &Names,
+    macros: &[Macro],
+    scope: &mut Scope,
+    tree: &Sexpr,
+    before: &[Binding],
+    next: usize,
+    levels: usize,
+) -> Result<Binding, ReadError>
+    ensures meant { Means binding_of result (binding_among (trees_in tree.now) (binder_name tree.now) (signature_of names.now macros.now) scope.old next (names_in before.now)) }
+    ensures scope { OnOk result (scope.new ≡ scope.old) }
+{
+    let [_, value] = trees_in(tree) else {
+        return Err(refused(FaultKind::BadForm));
+    };
+    let m = read_meaning(alloc, names, macros, scope, value, next, levels)?;
+    let name = bound_name(alloc, tree, before)?;
+    Ok(Binding {
+        name,
+        bound: Bound::Value(next, m),
+    })
+}
+
+/// The bindings of a `let`: parallel, each value read in the scope outside.
+#[cycle(reading)]
+fn read_bindings(
+    alloc: Global,
+    names: &Names,
+    macros: &[Macro],
+    scope: &mut Scope,
+    trees: &[Sexpr],
+    next: usize,
+    levels: usize,
+) -> Result<Bindings, ReadError>
+    ensures meant { Means bindings_of result (bindings_among trees.now (signature_of names.now macros.now) scope.old next []) }
+    ensures scope { OnOk result (scope.new ≡ scope.old) }
+{
+    let mut bindings: Bindings = Sequence::new(alloc);
+    for tree in trees {
+        let before = bindings.as_slice();
+        let binding = read_binding(alloc, names, macros, scope, tree, before, next, levels)?;
+        bindings.push(binding)?;
+    }
+    Ok(bindings)
+}
+
+/// A `let` behind its word.
+#[cycle(reading)]
+fn read_let(
+    alloc: Global,
+    names: &Names,
+    macros: &[Macro],
+    scope: &mut Scope,
+    parts: &[Sexpr],
+    next: usize,
+    levels: usize,
+) -> Result<MeasuredMeaning, ReadError>
+    ensures meant { Means meaning_of result (let_planned (map part_of parts.now) (signature_of names.now macros.now) scope.old next) }
+    ensures scope { OnOk result (scope.new ≡ scope.old) }
+{
+    let [first, body @ ..] = parts else {
+        return Err(refused(FaultKind::WrongCount));
+    };
+    let bindings = read_bindings(alloc, names, macros, scope, trees_in(first), next, levels)?;
+    read_body(alloc, names, macros, scope, bindings, body, next, levels)
+}
+
+/// A quantifier behind its word, whose variables were read.
+#[cycle(reading)]
+fn read_quantifier(
+    alloc: Global,
+    names: &Names,
+    macros: &[Macro],
+    scope: &mut Scope,
+    word: Word,
+    variables: Variables,
+    parts: &[Sexpr],
+    next: usize,
+    levels: usize,
+) -> Result<MeasuredMeaning, ReadError>
+    ensures meant { Means meaning_of result (quantifier_planned word variables (map part_of parts.now) (signature_of names.now macros.now) scope.old next) }
+    ensures scope { OnOk result (scope.new ≡ scope.old) }
+{
+    let [_, body @ ..] = parts else {
+        return Err(refused(FaultKind::WrongCount));
+    };
+    let bindings = variable_bindings(alloc, variables.as_slice())?;
+    let behind = place_behind(next, variables.len())?;
+    let m = read_body(alloc, names, macros, scope, bindings, body, behind, levels)?;
+    quantified(alloc, word, variables.as_slice(), m)
+}
+
+/// What is read by a plan, behind a head of this text.
+#[cycle(reading)]
+fn read_planned(
+    alloc: Global,
+    names: &Names,
+    macros: &[Macro],
+    scope: &mut Scope,
+    plan: Plan,
+    text: &[u8],
+    parts: &[Sexpr],
+    next: usize,
+    levels: usize,
+) -> Result<MeasuredSide, ReadError>
+    ensures meant { Means side_of result (planned plan text.now (map part_of parts.now) (signature_of names.now macros.now) scope.old next) }
+    ensures scope { OnOk result (scope.new ≡ scope.old) }
+{
+    let m = match plan {
+        Plan::Arguments(maker) => {
+            let paired = maker.is_paired();
+            let args = read_operands(alloc, names, macros, scope, parts, paired, next, levels)?;
+            return made(alloc, names, macros, scope, maker, args);
+        }
+        Plan::Call => {
+            let args = read_arguments(alloc, names, macros, scope, parts, false, next, levels)?;
+            read_name(alloc, names, macros, scope, text, next, args, levels)?
+        }
+        Plan::Let => read_let(alloc, names, macros, scope, parts, next, levels)?,
+        Plan::Quantifier(word, variables) => {
+            read_quantifier(alloc, names, macros, scope, word, variables, parts, next, levels)?
+        }
+        Plan::First => read_first(alloc, names, macros, scope, parts, next, levels)?,
+    };
+    Ok(MeasuredSide::Meant(m))
+}
+
+/// What a list means.
+#[cycle(reading)]
+fn read_list(
+    alloc: Global,
+    names: &Names,
+    macros: &[Macro],
+    scope: &mut Scope,
+    trees: &[Sexpr],
+    next: usize,
+    levels: usize,
+) -> Result<MeasuredSide, ReadError>
+    ensures meant { Means side_of result (list_read (map part_of trees.now) (signature_of names.now macros.now) scope.old next) }
+    ensures scope { OnOk result (scope.new ≡ scope.old) }
+{
+    let below = fewer(levels)?;
+    let [head, parts @ ..] = trees else {
+        return Err(refused(FaultKind::BadForm));
+    };
+    let plan = plan_of(alloc, names, head, parts, next)?;
+    let side = read_planned(alloc, names, macros, scope, plan, text_of(head), parts, next, below)?;
+    shallow(side)
+}
+
+/// What a tree means, or its first fault.
+#[cycle(reading)]
+fn read_side(
+    alloc: Global,
+    names: &Names,
+    macros: &[Macro],
+    scope: &mut Scope,
+    tree: &Sexpr,
+    next: usize,
+    levels: usize,
+) -> Result<MeasuredSide, ReadError>
+    ensures meant { Means side_of result (side tree.now (signature_of names.now macros.now) scope.old next) }
+    ensures scope { OnOk result (scope.new ≡ scope.old) }
+{
+    match tree {
+        Sexpr::Symbol(text) => {
+            let m = match truth_named(text.as_slice()) {
+                Some(truth) => MeasuredMeaning::Formula(MeasuredFormula::truth(truth)),
+                None => {
+                    let none = Sequence::new(alloc);
+                    read_name(alloc, names, macros, scope, text.as_slice(), next, none, levels)?
+                }
+            };
+            Ok(MeasuredSide::Meant(m))
+        }
+        Sexpr::Numeral(digits) => Ok(MeasuredSide::Meant(numeral(digits.as_slice())?)),
+        Sexpr::List(trees) => read_list(alloc, names, macros, scope, trees.as_slice(), next, levels),
+        Sexpr::Keyword(_) => Err(refused(FaultKind::BadForm)),
+        Sexpr::Decimal(_) | Sexpr::Hex(_) | Sexpr::Binary(_) | Sexpr::Str(_) => {
+            Err(refused(FaultKind::Unsupported))
+        }
+    }
+}
