@@ -1,0 +1,2 @@
+pub mod FormulaMoves
+pub mod TermMoves

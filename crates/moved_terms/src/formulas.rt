@@ -1,0 +1,85 @@
+//! Formulas with their variables moved.
+
+ghost use Rattle.std.specs.Prelude.{◌≡◌, IfOk, map};
+ghost use Rattle.smtlib_terms.specs.Meaning.{shifted_formula};
+
+use crate::copies::measured_array;
+use crate::places::{Shift, moved_binders};
+use crate::terms::moved_term;
+use mbqi_terms::Formula;
+use measured_terms::{MeasuredFormula, MeasuredFormulas};
+use std::alloc::{AllocError, Global};
+
+/// Formulas with their variables moved.
+#[cycle(formulas)]
+fn moved_formulas(
+    alloc: Global,
+    shift: Shift,
+    formulas: &[Formula],
+) -> Result<MeasuredFormulas, AllocError>
+    ensures { IfOk result (λ moved. moved ≡ map (shifted_formula shift.from shift.by) formulas.now) }
+{
+    let mut moved = MeasuredFormulas::new(alloc);
+    for f in formulas {
+        moved.push(moved_tree(alloc, shift, f)?)?;
+    }
+    Ok(moved)
+}
+
+/// A formula with its variables moved.
+#[cycle(formulas)]
+#[tactic(auto, using(crate::proofs::FormulaMoves::formula_laws))]
+fn moved_tree(alloc: Global, shift: Shift, formula: &Formula) -> Result<MeasuredFormula, AllocError>
+    ensures { IfOk result (λ moved. moved ≡ shifted_formula shift.from shift.by formula.now) }
+{
+    match formula {
+        Formula::Truth(truth) => Ok(MeasuredFormula::truth(*truth)),
+        Formula::Atom(t) => Ok(MeasuredFormula::atom(moved_term(alloc, shift, t)?)),
+        Formula::Equal(s, t) => {
+            let left = moved_term(alloc, shift, s)?;
+            MeasuredFormula::equal(left, moved_term(alloc, shift, t)?)
+        }
+        Formula::AtMost(s, t) => {
+            let left = moved_term(alloc, shift, s)?;
+            MeasuredFormula::at_most(left, moved_term(alloc, shift, t)?)
+        }
+        Formula::SameArray(a, b) => {
+            let left = measured_array(alloc, a)?;
+            MeasuredFormula::same_array(left, measured_array(alloc, b)?)
+        }
+        Formula::Not(f) => MeasuredFormula::negation(alloc, moved_tree(alloc, shift, f.get())?),
+        Formula::All(fs) => MeasuredFormula::all(moved_formulas(alloc, shift, fs.as_slice())?),
+        Formula::Any(fs) => MeasuredFormula::any(moved_formulas(alloc, shift, fs.as_slice())?),
+        Formula::Iff(f, g) => {
+            let left = moved_tree(alloc, shift, f.get())?;
+            MeasuredFormula::iff(alloc, left, moved_tree(alloc, shift, g.get())?)
+        }
+        Formula::Choose(c, f, g) => {
+            let condition = moved_tree(alloc, shift, c.get())?;
+            let then = moved_tree(alloc, shift, f.get())?;
+            MeasuredFormula::choose(alloc, condition, then, moved_tree(alloc, shift, g.get())?)
+        }
+        Formula::Forall(binders, f) => {
+            let moved = moved_binders(alloc, shift, binders.as_slice())?;
+            MeasuredFormula::forall(alloc, moved, moved_tree(alloc, shift, f.get())?)
+        }
+        Formula::Exists(binders, f) => {
+            let moved = moved_binders(alloc, shift, binders.as_slice())?;
+            MeasuredFormula::exists(alloc, moved, moved_tree(alloc, shift, f.get())?)
+        }
+    }
+}
+
+/// The formula with its variables moved, free ones and those that its quantifiers bind, and with its measures. Array
+/// terms whose equality is stated have no variables, and stay as they are. The only error is want of memory.
+///
+/// SMT-LIB 2.6 lets names of variables be reused; that variables are told apart by places is this project's own.
+pub fn moved_formula(
+    alloc: Global,
+    shift: Shift,
+    formula: &MeasuredFormula,
+) -> Result<MeasuredFormula, AllocError>
+    ensures { IfOk result (λ moved. moved ≡ shifted_formula shift.from shift.by formula.now) }
+{
+    moved_tree(alloc, shift, formula.as_formula())
+}
