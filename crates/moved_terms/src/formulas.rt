@@ -1,14 +1,52 @@
 //! Formulas with their variables moved.
 
 ghost use Rattle.std.specs.Prelude.{◌≡◌, IfOk, map};
-ghost use Rattle.smtlib_terms.specs.Meaning.{shifted_formula};
+ghost use Rattle.smtlib_terms.specs.Meaning.{shifted_formula, shifted_term};
 
 use crate::copies::measured_array;
 use crate::places::{Shift, moved_binders};
 use crate::terms::moved_term;
-use mbqi_terms::Formula;
+use mbqi_terms::{ArrayTerm, Formula, Term};
 use measured_terms::{MeasuredFormula, MeasuredFormulas};
 use std::alloc::{AllocError, Global};
+
+/// `=` of two terms with their variables moved.
+fn moved_equality(
+    alloc: Global,
+    shift: Shift,
+    s: &Term,
+    t: &Term,
+) -> Result<MeasuredFormula, AllocError>
+    ensures { IfOk result (λ moved. moved ≡ Formula.Equal (shifted_term shift.from shift.by s.now) (shifted_term shift.from shift.by t.now)) }
+{
+    let left = moved_term(alloc, shift, s)?;
+    MeasuredFormula::equal(left, moved_term(alloc, shift, t)?)
+}
+
+/// `<=` of two terms with their variables moved.
+fn moved_order(
+    alloc: Global,
+    shift: Shift,
+    s: &Term,
+    t: &Term,
+) -> Result<MeasuredFormula, AllocError>
+    ensures { IfOk result (λ moved. moved ≡ Formula.AtMost (shifted_term shift.from shift.by s.now) (shifted_term shift.from shift.by t.now)) }
+{
+    let left = moved_term(alloc, shift, s)?;
+    MeasuredFormula::at_most(left, moved_term(alloc, shift, t)?)
+}
+
+/// `=` of two array terms, which stay as they are.
+fn copied_equality(
+    alloc: Global,
+    a: &ArrayTerm,
+    b: &ArrayTerm,
+) -> Result<MeasuredFormula, AllocError>
+    ensures { IfOk result (λ copy. copy ≡ Formula.SameArray a.now b.now) }
+{
+    let left = measured_array(alloc, a)?;
+    MeasuredFormula::same_array(left, measured_array(alloc, b)?)
+}
 
 /// Formulas with their variables moved.
 #[cycle(formulas)]
@@ -35,18 +73,9 @@ fn moved_tree(alloc: Global, shift: Shift, formula: &Formula) -> Result<Measured
     match formula {
         Formula::Truth(truth) => Ok(MeasuredFormula::truth(*truth)),
         Formula::Atom(t) => Ok(MeasuredFormula::atom(moved_term(alloc, shift, t)?)),
-        Formula::Equal(s, t) => {
-            let left = moved_term(alloc, shift, s)?;
-            MeasuredFormula::equal(left, moved_term(alloc, shift, t)?)
-        }
-        Formula::AtMost(s, t) => {
-            let left = moved_term(alloc, shift, s)?;
-            MeasuredFormula::at_most(left, moved_term(alloc, shift, t)?)
-        }
-        Formula::SameArray(a, b) => {
-            let left = measured_array(alloc, a)?;
-            MeasuredFormula::same_array(left, measured_array(alloc, b)?)
-        }
+        Formula::Equal(s, t) => moved_equality(alloc, shift, s, t),
+        Formula::AtMost(s, t) => moved_order(alloc, shift, s, t),
+        Formula::SameArray(a, b) => copied_equality(alloc, a, b),
         Formula::Not(f) => MeasuredFormula::negation(alloc, moved_tree(alloc, shift, f.get())?),
         Formula::All(fs) => MeasuredFormula::all(moved_formulas(alloc, shift, fs.as_slice())?),
         Formula::Any(fs) => MeasuredFormula::any(moved_formulas(alloc, shift, fs.as_slice())?),
