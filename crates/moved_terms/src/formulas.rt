@@ -1,13 +1,14 @@
 //! Formulas with their variables moved.
 
 ghost use Rattle.std.specs.Prelude.{◌≡◌, IfOk, map};
-ghost use Rattle.smtlib_terms.specs.Meaning.{shifted_formula, shifted_term};
+ghost use Rattle.smtlib_terms.specs.Meaning.{shifted_binder, shifted_formula, shifted_term};
 
 use crate::copies::measured_array;
 use crate::places::{Shift, moved_binders};
 use crate::terms::moved_term;
-use mbqi_terms::{ArrayTerm, Formula, Term};
+use mbqi_terms::{ArrayTerm, Binder, Formula, Term};
 use measured_terms::{MeasuredFormula, MeasuredFormulas};
+use sqlite_items::Boxed;
 use std::alloc::{AllocError, Global};
 
 /// `=` of two terms with their variables moved.
@@ -64,6 +65,61 @@ fn moved_formulas(
     Ok(moved)
 }
 
+/// `=` of a formula that was moved and of one that is to be moved.
+#[cycle(formulas)]
+fn moved_iff(
+    alloc: Global,
+    shift: Shift,
+    g: &Boxed<Formula>,
+    left: MeasuredFormula,
+) -> Result<MeasuredFormula, AllocError>
+    ensures { IfOk result (λ moved. moved ≡ Formula.Iff left (shifted_formula shift.from shift.by g.now)) }
+{
+    MeasuredFormula::iff(alloc, left, moved_tree(alloc, shift, g.get())?)
+}
+
+/// `ite` of a condition and a branch that were moved and of a branch that is to be moved.
+#[cycle(formulas)]
+fn moved_choice(
+    alloc: Global,
+    shift: Shift,
+    g: &Boxed<Formula>,
+    condition: MeasuredFormula,
+    then: MeasuredFormula,
+) -> Result<MeasuredFormula, AllocError>
+    ensures { IfOk result (λ moved. moved ≡ Formula.Choose condition then (shifted_formula shift.from shift.by g.now)) }
+{
+    MeasuredFormula::choose(alloc, condition, then, moved_tree(alloc, shift, g.get())?)
+}
+
+/// `forall` with its variables moved.
+#[cycle(formulas)]
+fn moved_forall(
+    alloc: Global,
+    shift: Shift,
+    binders: &[Binder],
+    f: &Boxed<Formula>,
+) -> Result<MeasuredFormula, AllocError>
+    ensures { IfOk result (λ moved. moved ≡ Formula.Forall (map (shifted_binder shift.from shift.by) binders.now) (shifted_formula shift.from shift.by f.now)) }
+{
+    let moved = moved_binders(alloc, shift, binders)?;
+    MeasuredFormula::forall(alloc, moved, moved_tree(alloc, shift, f.get())?)
+}
+
+/// `exists` with its variables moved.
+#[cycle(formulas)]
+fn moved_exists(
+    alloc: Global,
+    shift: Shift,
+    binders: &[Binder],
+    f: &Boxed<Formula>,
+) -> Result<MeasuredFormula, AllocError>
+    ensures { IfOk result (λ moved. moved ≡ Formula.Exists (map (shifted_binder shift.from shift.by) binders.now) (shifted_formula shift.from shift.by f.now)) }
+{
+    let moved = moved_binders(alloc, shift, binders)?;
+    MeasuredFormula::exists(alloc, moved, moved_tree(alloc, shift, f.get())?)
+}
+
 /// A formula with its variables moved.
 #[cycle(formulas)]
 #[tactic(auto, using(crate::proofs::FormulaMoves::formula_laws))]
@@ -79,23 +135,14 @@ fn moved_tree(alloc: Global, shift: Shift, formula: &Formula) -> Result<Measured
         Formula::Not(f) => MeasuredFormula::negation(alloc, moved_tree(alloc, shift, f.get())?),
         Formula::All(fs) => MeasuredFormula::all(moved_formulas(alloc, shift, fs.as_slice())?),
         Formula::Any(fs) => MeasuredFormula::any(moved_formulas(alloc, shift, fs.as_slice())?),
-        Formula::Iff(f, g) => {
-            let left = moved_tree(alloc, shift, f.get())?;
-            MeasuredFormula::iff(alloc, left, moved_tree(alloc, shift, g.get())?)
-        }
+        Formula::Iff(f, g) => moved_iff(alloc, shift, g, moved_tree(alloc, shift, f.get())?),
         Formula::Choose(c, f, g) => {
             let condition = moved_tree(alloc, shift, c.get())?;
             let then = moved_tree(alloc, shift, f.get())?;
-            MeasuredFormula::choose(alloc, condition, then, moved_tree(alloc, shift, g.get())?)
+            moved_choice(alloc, shift, g, condition, then)
         }
-        Formula::Forall(binders, f) => {
-            let moved = moved_binders(alloc, shift, binders.as_slice())?;
-            MeasuredFormula::forall(alloc, moved, moved_tree(alloc, shift, f.get())?)
-        }
-        Formula::Exists(binders, f) => {
-            let moved = moved_binders(alloc, shift, binders.as_slice())?;
-            MeasuredFormula::exists(alloc, moved, moved_tree(alloc, shift, f.get())?)
-        }
+        Formula::Forall(binders, f) => moved_forall(alloc, shift, binders.as_slice(), f),
+        Formula::Exists(binders, f) => moved_exists(alloc, shift, binders.as_slice(), f),
     }
 }
 
