@@ -1,5 +1,5 @@
--- A macro before it is kept. No public clause cites it.
-use Rattle.std.specs.Prelude.{ℕ, ◌&&◌, List, [], ◌∷◌, length, codes, Result, Ok, Err, if◌then◌else◌}
+-- A macro before it is kept.
+use Rattle.std.specs.Prelude.{ℕ, Bool, ◌&&◌, List, [], ◌∷◌, length, codes, Result, Ok, Err, if◌then◌else◌}
 use Rattle.std.specs.List.{list_all}
 use Rattle.mbqi_values.specs.declared.fault.FaultKind.{FaultKind}
 use Rattle.mbqi_values.specs.declared.fault.FaultKind.TheVariants.{BadForm, ReservedName, Twice, WrongSort}
@@ -32,9 +32,17 @@ macro_described d name parameters result body =
     parameters_of parameters d.sorts [] >>= (λ ps. sort_meant result d.sorts >>= (λ s.
     Ok (record { name = name; parameters = ps; result = s; body = body })))
 
+-- A definition begins with its word, a name and a list of parameters.
+abbrev pub is_definition : Sexpr → Sexpr → Sexpr → Bool
+is_definition head name parameters =
+    is_symbol (codes "define-fun") head && (is_some_symbol name && (is_list parameters && list_all is_binder (trees_in parameters)))
+
 -- The macro that a definition describes.
 abbrev pub macro_read : Declarations → List Sexpr → Result Macro FaultKind
 macro_read d (head ∷ name ∷ parameters ∷ result ∷ body ∷ []) =
-    if is_symbol (codes "define-fun") head && (is_some_symbol name && (is_list parameters && list_all is_binder (trees_in parameters)))
-    then macro_described d (text_of name) (trees_in parameters) result body else Err BadForm
+    if is_definition head name parameters then macro_described d (text_of name) (trees_in parameters) result body else Err BadForm
 macro_read d trees = Err BadForm
+
+-- What stands in a definition: its first fault, or none. The macro's own name and sort aren't judged.
+unfoldable pub definition_parts : Declarations → Sexpr → Result (Unit {0}) FaultKind
+definition_parts d t = macro_read d (trees_in t) >>= (λ m. body_meant d m >>= (λ meaning. Ok tt))

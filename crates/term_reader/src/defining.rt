@@ -5,7 +5,7 @@ ghost use Rattle.smtlib_terms.specs.Answers.{Answers, Declares, IsFault};
 ghost use Rattle.smtlib_terms.specs.Declaring.{arguments, declarable, definition_read, formula_read, is_function, macro_defined, names_of, opaque_from, reader_of};
 ghost use Rattle.smtlib_terms.specs.Reading.{is_list, meant_by, trees_in};
 ghost use Rattle.term_operators.specs.Measured.{Means, meaning_of};
-ghost use Rattle.term_reader.specs.Defining.{body_meant, definition_checked, macro_described, macro_read, may_define};
+ghost use Rattle.term_reader.specs.Defining.{body_meant, definition_checked, definition_parts, is_definition, macro_described, macro_read, may_define};
 
 use crate::macros::{arguments, opaque_from};
 use crate::reading::read_meaning;
@@ -83,7 +83,7 @@ fn may_define(names: &Names, definition: &Macro, body: Sort) -> Result<(), ReadE
 }
 
 /// Whether a macro may be defined: its body has a meaning, and its name and sort let it.
-fn check_definition(alloc: Global, names: &Names, definition: &Macro) -> Result<(), ReadError>
+fn check_macro(alloc: Global, names: &Names, definition: &Macro) -> Result<(), ReadError>
     ensures { Answers result (definition_checked names.now definition.now) }
 {
     let body = body_meaning(alloc, names, definition)?;
@@ -128,6 +128,16 @@ fn described(
     })
 }
 
+/// Whether a definition begins with its word, a name and a list of parameters.
+fn is_definition(head: &Sexpr, name: &Sexpr, bound: &Sexpr) -> bool
+    ensures { result ≡ is_definition head.now name.now bound.now }
+{
+    is_symbol(head, b"define-fun")
+        && is_some_symbol(name)
+        && is_list(bound)
+        && each_is_binder(trees_in(bound))
+}
+
 /// The macro that a definition describes, whether or not it may be defined.
 fn macro_of_tree(alloc: Global, names: &Names, tree: &Sexpr) -> Result<Macro, ReadError>
     ensures { Answers result (macro_read names.now (trees_in tree.now)) }
@@ -135,14 +145,21 @@ fn macro_of_tree(alloc: Global, names: &Names, tree: &Sexpr) -> Result<Macro, Re
     let [head, name, bound, sort, body] = trees_in(tree) else {
         return Err(refused(FaultKind::BadForm));
     };
-    let has_shape = is_symbol(head, b"define-fun")
-        && is_some_symbol(name)
-        && is_list(bound)
-        && each_is_binder(trees_in(bound));
-    if !has_shape {
+    if !is_definition(head, name, bound) {
         return Err(refused(FaultKind::BadForm));
     }
     described(alloc, names, text_of(name), trees_in(bound), sort, body)
+}
+
+/// Whether what stands in a definition has a meaning. Refused: BadForm where the tree has another shape, or the first
+/// fault of the parameters, the result's sort and the body. The macro's own name and sort aren't judged.
+#[tactic(auto, unfolding(crate::specs::Defining::definition_parts))]
+pub fn check_definition(alloc: Global, names: &Names, tree: &Sexpr) -> Result<(), ReadError>
+    ensures { Answers result (definition_parts names.now tree.now) }
+{
+    let definition = macro_of_tree(alloc, names, tree)?;
+    body_meaning(alloc, names, &definition)?;
+    Ok(())
 }
 
 /// Defines a macro, `(define-fun f ((x S) ...) S t)`. Refused: BadForm where the tree has another shape, the first fault
@@ -154,7 +171,7 @@ pub fn define_macro(alloc: Global, names: &mut Names, tree: &Sexpr) -> Result<()
     ensures { Declares result names.old names.new (macro_defined names.old tree.now) }
 {
     let definition = macro_of_tree(alloc, names, tree)?;
-    check_definition(alloc, names, &definition)?;
+    check_macro(alloc, names, &definition)?;
     names.macros.push(definition)?;
     Ok(())
 }

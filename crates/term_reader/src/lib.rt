@@ -16,4 +16,4 @@ mod scope;
 #[cfg(test)]
 mod tests;
 
-pub use defining::{define_macro, read_formula};
+pub use defining::{check_definition, define_macro, read_formula};

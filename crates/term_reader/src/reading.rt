@@ -3,16 +3,16 @@
 //! The functions call each other, so each takes how many calls may still be nested, which falls with each list and
 //! each macro's body. As many as 2^64 nested calls have no room in memory.
 
-ghost use Rattle.std.specs.Prelude.{◌≡◌, ◌+◌, ◌++◌, List, [], length, map, Result, IfOk, OnOk, if◌then◌else◌};
+ghost use Rattle.std.specs.Prelude.{◌≡◌, ◌+◌, ◌++◌, List, [], length, map, Result, IfOk, IsOk, OnOk, if◌then◌else◌};
 ghost use Rattle.std.specs.List.{list_any};
 ghost use Rattle.mbqi_values.specs.declared.fault.FaultKind.{FaultKind};
 ghost use Rattle.smtlib_terms.specs.declared.meaning.Side.{Side};
-ghost use Rattle.smtlib_terms.specs.Answers.{Answers, IsFault};
+ghost use Rattle.smtlib_terms.specs.Answers.{Answers};
 ghost use Rattle.smtlib_terms.specs.Applying.{alone, meaning_in_scope, name_applied};
 ghost use Rattle.smtlib_terms.specs.Declaring.{reader_of};
 ghost use Rattle.smtlib_terms.specs.Meaning.{variables_of};
 ghost use Rattle.smtlib_terms.specs.Operators.{two_sides};
-ghost use Rattle.smtlib_terms.specs.Reading.{bindable, binder_name, body_read, first_read, list_read, meant_by, part_of, side, trees_in};
+ghost use Rattle.smtlib_terms.specs.Reading.{bindable, binder_name, body_read, first_read, list_read, meant_by, part_of, side, sides_read, trees_in};
 ghost use Rattle.term_operators.specs.Measured.{Means, meaning_of, meanings_of, side_of};
 ghost use Rattle.term_reader.specs.Plans.{arguments_read, binding_among, bindings_among, let_planned, macro_applied, only_part, operator_read, planned, quantifier_planned, truth_named};
 ghost use Rattle.smtlib_terms.specs.Words.{is_text};
@@ -94,15 +94,21 @@ fn bound_name(alloc: Global, tree: &Sexpr, before: &[Binding]) -> Result<Text, R
     Ok(Sequence::from_slice(alloc, name)?)
 }
 
-/// The fault of an atom whose second side has one. A difference is at fault before what stands behind it.
-fn second_fault(left: &MeasuredSide, error: ReadError) -> ReadError
-    ensures { (meant : Result Side FaultKind) → IsFault error meant → IsFault result (two_sides (side_of left.now) meant) }
+/// The two sides of an atom. A difference is at fault before what stands behind it.
+fn sides(
+    alloc: Global,
+    left: MeasuredSide,
+    right: Result<MeasuredSide, ReadError>,
+) -> Result<Meanings, ReadError>
+    ensures meant { (meant : Result Side FaultKind) → Means side_of right meant → Means meanings_of result (two_sides (side_of left) meant) }
+    ensures read { OnOk result (IsOk right) }
 {
-    match error {
-        ReadError::Memory => ReadError::Memory,
-        ReadError::Refused(refusal) => match left {
-            MeasuredSide::Meant(_) => ReadError::Refused(refusal),
-            MeasuredSide::Difference(_, _) => refused(FaultKind::NotDifference),
+    match right {
+        Ok(right) => two_sides(alloc, left, right),
+        Err(ReadError::Memory) => Err(ReadError::Memory),
+        Err(ReadError::Refused(refusal)) => match left {
+            MeasuredSide::Meant(_) => Err(ReadError::Refused(refusal)),
+            MeasuredSide::Difference(_, _) => Err(refused(FaultKind::NotDifference)),
         },
     }
 }
@@ -272,7 +278,28 @@ fn read_arguments(
     Ok(args)
 }
 
-/// The arguments of an operator. The two sides of an atom, which are paired, may have a difference.
+/// The two sides of an atom, of which one may be a difference.
+#[cycle(reading)]
+fn read_sides(
+    alloc: Global,
+    names: &Names,
+    macros: &[Macro],
+    scope: &mut Scope,
+    first: &Sexpr,
+    second: &Sexpr,
+    next: usize,
+    levels: usize,
+) -> Result<Meanings, ReadError>
+    ensures meant { Means meanings_of result (sides_read (part_of first.now) (part_of second.now) (signature_of names.now macros.now) scope.old next) }
+    ensures scope { OnOk result (scope.new ≡ scope.old) }
+{
+    let left = read_side(alloc, names, macros, scope, first, next, levels)?;
+    let behind = place_behind(next, left.variables())?;
+    let right = read_side(alloc, names, macros, scope, second, behind, levels);
+    sides(alloc, left, right)
+}
+
+/// The arguments of an operator. Those that are paired are the sides of an atom.
 #[cycle(reading)]
 fn read_operands(
     alloc: Global,
@@ -290,14 +317,10 @@ fn read_operands(
     let [first, second] = parts else {
         return read_arguments(alloc, names, macros, scope, parts, true, next, levels);
     };
-    if !paired {
-        return read_arguments(alloc, names, macros, scope, parts, true, next, levels);
-    }
-    let left = read_side(alloc, names, macros, scope, first, next, levels)?;
-    let behind = place_behind(next, left.variables())?;
-    match read_side(alloc, names, macros, scope, second, behind, levels) {
-        Ok(right) => two_sides(alloc, left, right),
-        Err(error) => Err(second_fault(&left, error)),
+    if paired {
+        read_sides(alloc, names, macros, scope, first, second, next, levels)
+    } else {
+        read_arguments(alloc, names, macros, scope, parts, true, next, levels)
     }
 }
 

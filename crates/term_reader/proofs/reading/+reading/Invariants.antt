@@ -31,6 +31,9 @@ decreases-read_arguments l = 16 * l.levels + 6
 abbrev pub decreases-read_binding : goal.decreases-read_binding
 decreases-read_binding l = 16 * l.levels + 6
 
+abbrev pub decreases-read_sides : goal.decreases-read_sides
+decreases-read_sides l = 16 * l.levels + 6
+
 abbrev pub decreases-read_body : goal.decreases-read_body
 decreases-read_body l = 16 * l.levels + 7
 
