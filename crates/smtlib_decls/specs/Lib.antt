@@ -1,0 +1,5 @@
+pub mod Commands
+pub mod Labels
+pub mod Scripts
+pub mod Means
+pub mod Takes

@@ -1,0 +1,81 @@
+//! The words of commands.
+
+ghost use Rattle.std.specs.Prelude.{◌≡◌};
+ghost use Rattle.std.specs.List.{list_any};
+ghost use Rattle.smtlib_terms.specs.Words.{is_one_of, is_text};
+ghost use Rattle.smtlib_decls.specs.Commands.{command_among, command_of, command_words, passed_over_words};
+
+/// A command, by its word (SMT-LIB 2.6, section 3.9).
+#[derive(Clone, Copy, Debug, PartialEq, Eq)]
+pub enum Command {
+    /// A command that changes no script, whatever stands behind its word.
+    PassedOver,
+    DeclareSort,
+    DeclareConst,
+    DeclareFun,
+    DefineFun,
+    Assert,
+    CheckSat,
+    Exit,
+    /// Any other word, also of a command that this profile leaves out.
+    Unknown,
+}
+
+/// Whether the text is one of these words.
+fn is_among(words: &[&str], text: &[u8]) -> bool
+    ensures { result ≡ list_any (λ word. is_text word.now text.now) words.now }
+{
+    words.iter().any(|word| word.as_bytes() == text)
+}
+
+/// Whether the text is the word of a command that is passed over.
+fn is_passed_over(text: &[u8]) -> bool
+    ensures { result ≡ is_one_of passed_over_words text.now }
+{
+    is_among(
+        &[
+            "set-logic",
+            "set-info",
+            "set-option",
+            "get-model",
+            "get-info",
+            "get-unsat-core",
+            "echo",
+        ],
+        text,
+    )
+}
+
+/// The command of another word, unless the profile has none of that word.
+fn known_command(text: &[u8]) -> Option<Command>
+    ensures { result ≡ command_among command_words text.now }
+{
+    if text == b"declare-sort".as_slice() {
+        Some(Command::DeclareSort)
+    } else if text == b"declare-const".as_slice() {
+        Some(Command::DeclareConst)
+    } else if text == b"declare-fun".as_slice() {
+        Some(Command::DeclareFun)
+    } else if text == b"define-fun".as_slice() {
+        Some(Command::DefineFun)
+    } else if text == b"assert".as_slice() {
+        Some(Command::Assert)
+    } else if text == b"check-sat".as_slice() {
+        Some(Command::CheckSat)
+    } else if text == b"exit".as_slice() {
+        Some(Command::Exit)
+    } else {
+        None
+    }
+}
+
+/// The command of a word.
+#[tactic(auto, unfolding(crate::specs::Commands::command_of))]
+pub fn command_of(text: &[u8]) -> Command
+    ensures { result ≡ command_of text.now }
+{
+    if is_passed_over(text) {
+        return Command::PassedOver;
+    }
+    known_command(text).unwrap_or(Command::Unknown)
+}

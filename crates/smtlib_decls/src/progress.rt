@@ -1,0 +1,49 @@
+//! What was read so far.
+
+ghost use Rattle.std.specs.Prelude.{◌≡◌};
+ghost use Rattle.smtlib_decls.specs.Scripts.{nothing, script_of};
+
+use mbqi_terms::{Assertions, Script};
+use smtlib_terms::names::Names;
+use std::alloc::Global;
+
+/// What the commands so far have said.
+#[derive(Drop)]
+pub struct Progress {
+    pub names: Names,
+    pub assertions: Assertions,
+    pub asks: bool,
+}
+
+impl Progress {
+    /// Before the first command.
+    pub fn new(alloc: Global) -> Progress
+        ensures { result ≡ nothing }
+    {
+        Progress {
+            names: Names::new(alloc),
+            assertions: Assertions::new(alloc),
+            asks: false,
+        }
+    }
+
+    /// The script that the commands make. Macros are no part of it.
+    pub fn into_script(self) -> Script
+        ensures { result ≡ script_of self }
+    {
+        let Progress {
+            names,
+            assertions,
+            asks,
+        } = self;
+        let Names {
+            sorts, functions, ..
+        } = names;
+        Script {
+            sorts,
+            functions,
+            assertions,
+            asks,
+        }
+    }
+}
