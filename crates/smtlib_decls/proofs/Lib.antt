@@ -1,1 +1,2 @@
 pub mod SortsRead
+pub mod Rows

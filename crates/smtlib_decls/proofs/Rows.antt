@@ -1,5 +1,5 @@
 -- Worked rows: the definitions compute scripts, and the first refusals.
-use Rattle.std.proofs.Common.{◌≡◌, ℕ, List, [], ◌∷◌, Option, None, Some, Ok, Err, pos, negsuc, true, false, refl, rules}
+use Rattle.std.proofs.Common.{◌≡◌, ℕ, List, [], ◌∷◌, Option, None, Some, Ok, Err, pos, negsuc, true, false, refl, inl, rules}
 use Rattle.std.specs.Prelude.{codes}
 use Rattle.mbqi_values.specs.declared.fault.FaultKind.TheVariants as kind
 use Rattle.mbqi_terms.specs.declared.formula.Formula.{Formula}
@@ -14,6 +14,9 @@ use Rattle.mbqi_terms.specs.declared.term.ArrayTerm.TheBlock.{hidden-the_row-Ter
 use Rattle.mbqi_terms.specs.declared.term.Symbol.TheVariants.{Declared}
 use Rattle.mbqi_terms.specs.declared.term.Term as terms
 use Rattle.mbqi_terms.specs.declared.term.Term.TheVariants.{Num, Plus, Var, Apply}
+use Rattle.sexpr_text.specs.Bytes.{class_of, is_symbol_byte}
+use Rattle.sexpr_text.specs.Front.{front_of}
+use Rattle.sexpr_text.specs.Lexis.{fault_from, lexed_from}
 use Rattle.sexpr_text.specs.declared.tree.Form.{Form}
 use Rattle.sexpr_text.specs.declared.tree.Sexpr.{Sexpr}
 use Rattle.sexpr_text.specs.declared.tree.Sexpr.TheBlock.{hidden-the_row-Sexpr-0}
@@ -25,6 +28,7 @@ use Rattle.smtlib_terms.specs.Reading.{side, trees_in}
 use Rattle.smtlib_terms.specs.Words.{word_of, is_reserved, is_reserved_word}
 use Rattle.smtlib_decls.specs.Commands.{command_meant, command_of, constant_declared, function_command, signature_declared}
 use Rattle.smtlib_decls.specs.Labels.{label_of}
+use Rattle.smtlib_decls.specs.Means.{Refused}
 use Rattle.smtlib_decls.specs.Scripts.{is_exit, script_meant}
 use denote.Hole.Carrier.{hidden}
 
@@ -152,7 +156,7 @@ label_twice : script_meant
     (form 0 26 (list (symbol (codes "assert") ∷ list (symbol (codes "!") ∷ symbol (codes "true") ∷ keyword (codes "named") ∷ symbol (codes "a") ∷ []) ∷ []))
     ∷ form 26 53 (list (symbol (codes "assert") ∷ list (symbol (codes "!") ∷ symbol (codes "false") ∷ keyword (codes "named") ∷ symbol (codes "a") ∷ []) ∷ []))
     ∷ [])
-    ≡ Err (record { at = 25; kind = kind.Twice })
+    ≡ Err (record { at = 26; kind = kind.Twice })
 unfolding command_meant command_of label_of is_exit function_command constant_declared signature_declared formula_read sort_declared function_declared side trees_in word_of sort_meant is_reserved is_reserved_word shifted_formula shifted_term depth_of_formula depth_of_term depth_of_array varies variables_in hidden-the_row-Sexpr-0 hidden-the_row-Term-1 hidden-the_row-Formula-0 hidden
 label_twice = search (rules, formulas.the_lemmas, terms.the_lemmas)
 
@@ -365,3 +369,8 @@ list_without_a_word : script_meant
     ≡ Err (record { at = 0; kind = kind.BadForm })
 unfolding command_meant command_of label_of is_exit function_command constant_declared signature_declared formula_read sort_declared function_declared side trees_in word_of sort_meant is_reserved is_reserved_word shifted_formula shifted_term depth_of_formula depth_of_term depth_of_array varies variables_in hidden-the_row-Sexpr-0 hidden-the_row-Term-1 hidden-the_row-Formula-0 hidden
 list_without_a_word = search (rules, formulas.the_lemmas, terms.the_lemmas)
+
+-- (assert (p
+bracket_left_open : Refused (codes "(assert (p") (record { at = 0; kind = kind.Unclosed })
+unfolding fault_from lexed_from front_of class_of is_symbol_byte
+bracket_left_open = inl refl
