@@ -101,7 +101,7 @@ macro_under_a_binder : script_meant
 unfolding command_meant command_of label_of is_exit function_command constant_declared signature_declared formula_read sort_declared function_declared side trees_in word_of sort_meant is_reserved is_reserved_word shifted_formula shifted_term depth_of_formula depth_of_term depth_of_array varies variables_in hidden-the_row-Sexpr-0 hidden-the_row-Term-1 hidden-the_row-Formula-0 hidden
 macro_under_a_binder = search (rules, formulas.the_lemmas, terms.the_lemmas)
 
--- 
+--
 empty_text : script_meant
     ([])
     ≡ Ok (record { sorts = []; functions = []; assertions = []; asks = false })

@@ -107,7 +107,9 @@ fn take_function(
     if progress.asks {
         return Err(refused(FaultKind::Unsupported));
     }
-    progress.names.declare_function(alloc, name, args, result_sort)
+    progress
+        .names
+        .declare_function(alloc, name, args, result_sort)
 }
 
 /// Declares a constant of the sort that a tree names.
@@ -172,13 +174,7 @@ pub fn take_signature(
     if !is_some_symbol(name) || !is_list(args) {
         return Err(refused(FaultKind::BadForm));
     }
-    declare_function(
-        alloc,
-        progress,
-        text_of(name),
-        trees_in(args),
-        result_sort,
-    )
+    declare_function(alloc, progress, text_of(name), trees_in(args), result_sort)
 }
 
 /// Takes `(define-fun f ((x S) ...) S t)`.

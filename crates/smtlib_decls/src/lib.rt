@@ -13,6 +13,8 @@ mod label;
 mod laws;
 mod progress;
 mod reader;
+#[cfg(test)]
+mod tests;
 
 pub use laws::one_script_or_refusal;
 pub use reader::{read_script, read_text};

@@ -37,7 +37,9 @@ impl Progress {
             asks,
         } = self;
         let Names {
-            sorts, functions, ..
+            sorts,
+            functions,
+            ..
         } = names;
         Script {
             sorts,
