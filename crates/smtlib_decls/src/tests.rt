@@ -118,6 +118,29 @@ fn assert_counts<R: Abort>(rt: &R, script: &Script, counts: (usize, usize, usize
     assert_eq!(rt; script.asks, asks);
 }
 
+/// Asserts the name of the first sort.
+fn assert_sort<R: Abort>(rt: &R, script: &Script, expected: &[u8]) {
+    match script.sorts.as_slice().first() {
+        Some(name) => assert_eq!(rt; name.as_slice(), expected),
+        None => panic!(rt; "no sort"),
+    }
+}
+
+/// Asserts the name of the last function, and that it is a predicate.
+fn assert_last_function<R: Abort>(rt: &R, script: &Script, expected: &[u8]) {
+    match script.functions.as_slice().last() {
+        Some(function) => {
+            assert_eq!(rt; function.name.as_slice(), expected);
+            assert_eq!(rt;
+                function.args.as_slice(),
+                [Sort::Elem(0), Sort::Int].as_slice()
+            );
+            assert_eq!(rt; function.result, Sort::Truth);
+        }
+        None => panic!(rt; "no function"),
+    }
+}
+
 #[test]
 fn declarations_make_a_script(rt: HostRuntime) -> Result<(), Fail> {
     let alloc = rt.alloc();
@@ -126,19 +149,21 @@ fn declarations_make_a_script(rt: HostRuntime) -> Result<(), Fail> {
     let forms = read_forms(alloc, text)?;
     let script = read_script(alloc, &forms)?;
     assert_counts(&rt, &script, (1, 2, 0), true);
-    assert_eq!(rt; script.sorts.as_slice()[0].as_slice(), b"S".as_slice());
-    let p = &script.functions.as_slice()[1];
-    assert_eq!(rt; p.name.as_slice(), b"p".as_slice());
-    assert_eq!(rt; p.args.as_slice(), [Sort::Elem(0), Sort::Int].as_slice());
-    assert_eq!(rt; p.result, Sort::Truth);
+    assert_sort(&rt, &script, b"S");
+    assert_last_function(&rt, &script, b"p");
     Ok(())
 }
 
-/// Asserts the label of an assertion.
-fn assert_label<R: Abort>(rt: &R, assertion: &Assertion, expected: &[u8]) {
-    match &assertion.label {
-        Some(label) => assert_eq!(rt; label.as_slice(), expected),
-        None => panic!(rt; "no label"),
+/// Asserts the label of an assertion, which has one.
+fn assert_label<R: Abort>(rt: &R, assertion: Option<&Assertion>, expected: &[u8]) {
+    match assertion {
+        Some(
+            Assertion {
+                label: Some(label),
+                ..
+            },
+        ) => assert_eq!(rt; label.as_slice(), expected),
+        _ => panic!(rt; "no label"),
     }
 }
 
@@ -148,9 +173,17 @@ fn labels_are_kept(rt: HostRuntime) -> Result<(), Fail> {
         b"(assert (! true :named |let|))(assert (! (! false :named b) :pattern (q) :named @c))";
     let script = read_text(rt.alloc(), text)?;
     assert_counts(&rt, &script, (0, 0, 2), false);
-    assert_label(&rt, &script.assertions.as_slice()[0], b"let");
-    assert_label(&rt, &script.assertions.as_slice()[1], b"@c");
+    assert_label(&rt, script.assertions.as_slice().first(), b"let");
+    assert_label(&rt, script.assertions.as_slice().last(), b"@c");
     Ok(())
+}
+
+/// Asserts that two assertions have the same formula.
+fn assert_same<R: Abort>(rt: &R, read: &[Assertion], expected: &[Assertion]) {
+    match (read, expected) {
+        ([a], [b]) => assert!(rt; same_formula(&a.formula, &b.formula)),
+        _ => panic!(rt; "not one assertion"),
+    }
 }
 
 #[test]
@@ -163,9 +196,11 @@ fn macros_are_replaced(rt: HostRuntime) -> Result<(), Fail> {
     let script = read_text(alloc, text)?;
     let expected = read_text(alloc, plain)?;
     assert_counts(&rt, &script, (0, 1, 1), true);
-    let read = &script.assertions.as_slice()[0].formula;
-    let wanted = &expected.assertions.as_slice()[0].formula;
-    assert!(rt; same_formula(read, wanted));
+    assert_same(
+        &rt,
+        script.assertions.as_slice(),
+        expected.assertions.as_slice(),
+    );
     Ok(())
 }
 
