@@ -5,3 +5,8 @@ pub mod TextLaws
 pub mod Decimals
 pub mod Scopes
 pub mod Spelled
+pub mod ReadParts
+pub mod ReadNumbers
+pub mod ReadNames
+pub mod ReadSorts
+pub mod Depths

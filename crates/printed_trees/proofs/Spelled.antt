@@ -93,7 +93,7 @@ declared_spelled script marks f args result told d =
     ∙ (name_spelled d.function.name (function_found script marks f d.function told d.there).no_word
     ∙ sym (ap (λ (o : Option Function). name_text (name_in o)) d.there))
 
-sort_is_name : (script : Script) (marks s : ℕ) → AreToldApart script marks → s < length script.sorts → IsName (unwrap_or (slice_get script.sorts s) [])
+pub sort_is_name : (script : Script) (marks s : ℕ) → AreToldApart script marks → s < length script.sorts → IsName (unwrap_or (slice_get script.sorts s) [])
 sort_is_name script marks s told there =
     let at = slice_get-get_or script.sorts s [] there in
     subst (λ (o : Option (List ℕ)). IsName (unwrap_or o [])) (sym at) (all_get IsName script.sorts s _ told.named.sorts at)
@@ -119,7 +119,7 @@ plain_spelled script marks plain.Truth told is = bool_spelled
 plain_spelled script marks plain.Int told is = int_spelled
 plain_spelled script marks (plain.Elem s) told is = sort_name_spelled script marks s told is
 
-index_plain : (script : Script) (s : Plain) → IsIndexSort script s → IsPlainSort script s
+pub index_plain : (script : Script) (s : Plain) → IsIndexSort script s → IsPlainSort script s
 index_plain script plain.Truth is = absurd is
 index_plain script plain.Int is = is
 index_plain script (plain.Elem s) is = is

@@ -1,3 +1,4 @@
 pub mod Trees
 pub mod Names
 pub mod InForm
+pub mod Means
