@@ -10,3 +10,6 @@ pub mod ReadNumbers
 pub mod ReadNames
 pub mod ReadSorts
 pub mod Depths
+pub mod Meanings
+pub mod ReadMaps
+pub mod ReadTerms
