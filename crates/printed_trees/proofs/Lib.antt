@@ -13,3 +13,5 @@ pub mod Depths
 pub mod Meanings
 pub mod ReadMaps
 pub mod ReadTerms
+pub mod ReadBinders
+pub mod ReadFormulas

@@ -92,7 +92,7 @@ apply_means script marks told scope small next f ts args s d (HaveSorts.more_ter
 const_head : (script : Script) (s : Sort) → head_of (tree.List (word_tree (codes "as") ∷ word_tree (codes "const") ∷ sort_tree script s ∷ [])) ≡ Constant (sort_tree script s)
 const_head script s = list_is_head (word_tree (codes "as") ∷ word_tree (codes "const") ∷ sort_tree script s ∷ [])
 
-no_more : (next : ℕ) (s : Plain) (t : Term) → next + variables_of (term_meant s t) ≡ next
+pub no_more : (next : ℕ) (s : Plain) (t : Term) → next + variables_of (term_meant s t) ≡ next
 no_more next plain.Truth t = let none = formula_measure.variables-Atom t in omega arith
 no_more next plain.Int t = omega arith
 no_more next (plain.Elem s) t = omega arith
