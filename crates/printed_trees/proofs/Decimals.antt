@@ -67,7 +67,7 @@ all_marks (suc marks) ds = all_marks marks ds
 pub variable_begins : (marks place : ℕ) → place < 2 ^ 64 → begins_with marks (variable_text marks place) ≡ true
 variable_begins marks place within =
     let digit : is_ascii_digit (get_or (replicate marks 63 ++ decimal place) marks 0) ≡ true =
-        ap is_ascii_digit (past_marks marks (decimal place)) ∙ first_all is_ascii_digit (decimal place) (digits_all place within) (decimal_nonempty place within) in
+    ap is_ascii_digit (past_marks marks (decimal place)) ∙ first_all is_ascii_digit (decimal place) (digits_all place within) (decimal_nonempty place within) in
     rw digit (all_marks marks (decimal place))
 
 -- a variable's name needs no bars
@@ -85,6 +85,9 @@ mark_symbol = refl
 marks_symbols : (marks : ℕ) (ds : List ℕ) → list_all is_symbol_byte ds ≡ true → list_all is_symbol_byte (replicate marks 63 ++ ds) ≡ true
 marks_symbols zero ds all = all
 marks_symbols (suc marks) ds all = rw mark_symbol (marks_symbols marks ds all)
+
+pub variable_symbols : (marks place : ℕ) → place < 2 ^ 64 → list_all is_symbol_byte (variable_text marks place) ≡ true
+variable_symbols marks place within = marks_symbols marks (decimal place) (all_symbols (decimal place) (digits_all place within))
 
 pub variable_simple : (marks place : ℕ) → 0 < marks → place < 2 ^ 64 → is_simple (variable_text marks place) ≡ true
 unfolding is_simple

@@ -15,3 +15,5 @@ pub mod ReadMaps
 pub mod ReadTerms
 pub mod ReadBinders
 pub mod ReadFormulas
+pub mod Legal
+pub mod Assertions

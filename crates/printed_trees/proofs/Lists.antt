@@ -66,7 +66,7 @@ function_at (g ∷ gs) at zero f distinct e =
 function_at (g ∷ gs) at (suc i) f distinct e =
     let later = function_at gs (at + 1) i f (distinct_tail g.name (map (λ (f : Function). f.name) gs) distinct) e in
     let other : is_text f.name g.name ≡ false =
-        other_text f.name g.name (distinct_head g.name (map (λ (f : Function). f.name) gs) i f.name distinct (get_map (λ (f : Function). f.name) gs i f e)) in
+    other_text f.name g.name (distinct_head g.name (map (λ (f : Function). f.name) gs) i f.name distinct (get_map (λ (f : Function). f.name) gs i f e)) in
     let number : at + 1 + i ≡ at + suc i = omega arith in
     rw other (later ∙ ap (λ (n : ℕ). Some (n, f)) number)
 

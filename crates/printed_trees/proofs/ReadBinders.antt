@@ -53,7 +53,7 @@ not_seen marks place (x ∷ xs) earlier within =
     let below : q < place = earlier.0.1 in
     let differ : q ≢ place = λ same. absurd (omega arith) in
     let other : is_text x (variable_text marks place) ≡ false =
-        other_text x (variable_text marks place) (λ same. variables_differ marks q place (omega arith) within differ (sym earlier.0.2 ∙ same)) in
+    other_text x (variable_text marks place) (λ same. variables_differ marks q place (omega arith) within differ (sym earlier.0.2 ∙ same)) in
     rw other (not_seen marks place xs earlier.1 within)
 
 one_more : (marks place : ℕ) (seen : List (List ℕ)) → AreEarlier marks place seen → AreEarlier marks (place + 1) (seen ++ variable_text marks place ∷ [])
@@ -84,8 +84,8 @@ binders_read script marks next (b ∷ bs) seen told placed within earlier =
     let pair = trees_in-List (variable_tree marks b.place ∷ sort_tree script b.sort ∷ []) in
     let name : binder_name (binder_tree script marks b) ≡ variable_text marks next = ap first_text pair ∙ ap (variable_text marks) placed.0 in
     let named : bindable (binder_name (binder_tree script marks b)) seen ≡ Ok (variable_text marks next) =
-        ap (λ (n : List ℕ). bindable n seen) name
-        ∙ bindable_ok (variable_text marks next) seen (free_mark marks next told.some) (not_seen marks next seen earlier (omega arith)) in
+    ap (λ (n : List ℕ). bindable n seen) name
+    ∙ bindable_ok (variable_text marks next) seen (free_mark marks next told.some) (not_seen marks next seen earlier (omega arith)) in
     binder_first (binder_tree script marks b) (map (binder_tree script marks) bs) script.sorts next seen b.sort (variable_text marks next) (map (variable_of marks) bs)
     (ap (λ (ts : List Sexpr). second_sort ts script.sorts) pair ∙ variable_sort_means script marks b.sort told placed.1)
     (quantifiable_ok script b.sort placed.1) named

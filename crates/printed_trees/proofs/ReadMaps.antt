@@ -89,11 +89,11 @@ declared_read script marks told scope small number es e ms d =
     let three = no_word d.function.name (codes "not") is.no_word not_reserved in
     let four = is.no_word in
     let named : pointwise_named (signature_of script) (bindings_of marks scope) d.function.name ms ≡ Ok (op_pointwise (op.Declared number) es e) =
-        rw (one, two, three, four)
-        (ap (bound_pointwise (signature_of script) d.function.name) (is.unbound scope small)
-        ∙ (ap function_pointwise is.found
-        ∙ (ap (λ (sorts : List Sort). Ok (record { op = op.Declared number; places = sorts; result = plain_of d.function.result })) d.takes
-        ∙ ap (λ (p : Plain). Ok (op_pointwise (op.Declared number) es p)) (ap plain_of d.gives ∙ plain_own e)))) in
+    rw (one, two, three, four)
+    (ap (bound_pointwise (signature_of script) d.function.name) (is.unbound scope small)
+    ∙ (ap function_pointwise is.found
+    ∙ (ap (λ (sorts : List Sort). Ok (record { op = op.Declared number; places = sorts; result = plain_of d.function.result })) d.takes
+    ∙ ap (λ (p : Plain). Ok (op_pointwise (op.Declared number) es p)) (ap plain_of d.gives ∙ plain_own e)))) in
     ap (λ (o : Option Function). pointwise_named (signature_of script) (bindings_of marks scope) (name_in o) ms) d.there ∙ named
 
 pub pointwise_read : (script : Script) (marks : ℕ) (told : AreToldApart script marks) (scope : List Binder) (small : AreSmall scope) (f : MapOp) (es : List Plain) (e : Plain) (ms : List Meaning) →

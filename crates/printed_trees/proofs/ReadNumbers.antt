@@ -28,10 +28,10 @@ use Rattle.printed_trees.proofs.Decimals.{decimal_value}
 use Rattle.printed_trees.proofs.ReadParts.{le_true, one_read, word_means}
 use Rattle.printed_trees.proofs.Words.{minus_word}
 
-leb_le : (a b : ℕ) → leb a b ≡ true → a ≤ b
+pub leb_le : (a b : ℕ) → leb a b ≡ true → a ≤ b
 leb_le a b e = grind (arith, nat_tests)
 
-ltb_lt : (a b : ℕ) → ltb a b ≡ true → a < b
+pub ltb_lt : (a b : ℕ) → ltb a b ≡ true → a < b
 ltb_lt a b e = grind (arith, nat_tests)
 
 lt_ltb : (a b : ℕ) → a < b → ltb a b ≡ true

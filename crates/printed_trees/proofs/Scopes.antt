@@ -39,12 +39,12 @@ found_step : (marks : ℕ) (b : Binder) (bs : List Binder) (place : ℕ) (s : So
 found_step marks b bs place s true small is later e =
     let same : b.place ≡ place = eqb_true b.place place is in
     let own : is_text (variable_text marks place) (variable_text marks b.place) ≡ true =
-        subst (λ (n : ℕ). is_text (variable_text marks n) (variable_text marks b.place) ≡ true) same (own_text (variable_text marks b.place)) in
+    subst (λ (n : ℕ). is_text (variable_text marks n) (variable_text marks b.place) ≡ true) same (own_text (variable_text marks b.place)) in
     let sort : b.sort ≡ s = cc in
     rw own (ap (λ (n : ℕ). Some (Variable n b.sort)) same ∙ ap (λ (r : Sort). Some (Variable place r)) sort)
 found_step marks b bs place s false small is later e =
     let other : is_text (variable_text marks place) (variable_text marks b.place) ≡ false =
-        other_text (variable_text marks place) (variable_text marks b.place) (variables_differ marks place b.place (small_at bs place s small.1 e) small.0 (eqb_false b.place place is)) in
+    other_text (variable_text marks place) (variable_text marks b.place) (variables_differ marks place b.place (small_at bs place s small.1 e) small.0 (eqb_false b.place place is)) in
     rw other (later e)
 
 pub variable_found : (marks : ℕ) (bs : List Binder) (place : ℕ) (s : Sort) → AreSmall bs → sort_at bs place ≡ Some s → bound_to (variable_text marks place) (bindings_of marks bs) ≡ Some (Variable place s)
@@ -58,7 +58,7 @@ name_unbound marks name [] apart small = refl
 name_unbound marks name (b ∷ bs) apart small =
     let begun = variable_begins marks b.place small.0 in
     let other : is_text name (variable_text marks b.place) ≡ false =
-        other_text name (variable_text marks b.place) (λ same. let e : begins_with marks name ≡ begins_with marks (variable_text marks b.place) = ap (begins_with marks) same in cc) in
+    other_text name (variable_text marks b.place) (λ same. let e : begins_with marks name ≡ begins_with marks (variable_text marks b.place) = ap (begins_with marks) same in cc) in
     rw other (name_unbound marks name bs apart small.1)
 
 -- no name of a script is like a variable's

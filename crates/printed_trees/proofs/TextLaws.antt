@@ -115,4 +115,3 @@ formula-Forall script marks bs f =
 pub formula-Exists : (script : Script) (marks : ℕ) (bs : List Binder) (f : Formula) → formula_text_with script marks (formula.Exists bs f) ≡ list_text (codes "exists" ∷ binders_text script marks bs ∷ formula_text_with script marks f ∷ [])
 formula-Exists script marks bs f =
     ap (formula_text_with script marks) (sym (formula.rolls-Exists bs f)) ∙ fold-roll-Formula (List ℕ) (formula_layer script marks) (Formula-F.Exists bs f)
-

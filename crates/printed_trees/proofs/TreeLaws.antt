@@ -116,4 +116,3 @@ formula-Forall script marks bs f =
 pub formula-Exists : (script : Script) (marks : ℕ) (bs : List Binder) (f : Formula) → formula_tree script marks (formula.Exists bs f) ≡ tree.List (word_tree (codes "exists") ∷ binders_tree script marks bs ∷ formula_tree script marks f ∷ [])
 formula-Exists script marks bs f =
     ap (formula_tree script marks) (sym (formula.rolls-Exists bs f)) ∙ fold-roll-Formula Sexpr (formula_layer script marks) (Formula-F.Exists bs f)
-

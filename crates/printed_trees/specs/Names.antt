@@ -8,6 +8,7 @@ use Rattle.sexpr_text.specs.Bytes.{is_quoted_content}
 use Rattle.smtlib_printer.specs.Names.{is_begun, variable_text}
 use Rattle.smtlib_terms.specs.declared.meaning.Bound.TheVariants.{Variable}
 use Rattle.smtlib_terms.specs.declared.names.Binding.{Binding}
+use Rattle.smtlib_terms.specs.Declaring.{Declarations}
 use Rattle.smtlib_terms.specs.Names.{Signature}
 use Rattle.smtlib_terms.specs.Words.{is_reserved}
 
@@ -47,3 +48,7 @@ pub record AreToldApart (script : Script) (marks : ℕ) : Type 0 where
   pub named : AreNamed script
   pub some : 0 < marks
   pub apart : is_begun script marks ≡ false
+
+-- The declarations of a script, as a reader has them before its assertions.
+abbrev pub declarations_of : Script → Declarations
+declarations_of script = record { sorts = script.sorts; functions = script.functions; macros = [] }
