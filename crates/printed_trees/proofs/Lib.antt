@@ -17,3 +17,5 @@ pub mod ReadBinders
 pub mod ReadFormulas
 pub mod Legal
 pub mod Assertions
+pub mod TextsRead
+pub mod ScriptTexts

@@ -128,7 +128,7 @@ pub array_sort_spelled : (script : Script) (marks : ℕ) (i e : Plain) → AreTo
 array_sort_spelled script marks i e told index element =
     two_spelled _ _ _ _ _ _ array_spelled (plain_spelled script marks i told (index_plain script i index)) (plain_spelled script marks e told element)
 
-variable_sort_spelled : (script : Script) (marks : ℕ) (s : Sort) → AreToldApart script marks → IsVariableSort script s → text_of (sort_tree script s) ≡ sort_text script s
+pub variable_sort_spelled : (script : Script) (marks : ℕ) (s : Sort) → AreToldApart script marks → IsVariableSort script s → text_of (sort_tree script s) ≡ sort_text script s
 variable_sort_spelled script marks sort.Truth told is = absurd is
 variable_sort_spelled script marks sort.Int told is = int_spelled
 variable_sort_spelled script marks (sort.Elem s) told is = sort_name_spelled script marks s told is

@@ -2,3 +2,4 @@ pub mod Trees
 pub mod Names
 pub mod InForm
 pub mod Means
+pub mod Scripts
