@@ -23,10 +23,10 @@ other_text a b differ = go (is_text a b) refl
     go false e = e
 
 -- the tail of such a list is such a list, and its head isn't in it
-distinct_tail : {X : Type 0} (x : X) (xs : List X) → AreDistinct (x ∷ xs) → AreDistinct xs
+pub distinct_tail : {X : Type 0} (x : X) (xs : List X) → AreDistinct (x ∷ xs) → AreDistinct xs
 distinct_tail x xs distinct i j y e f = let same : suc i ≡ suc j = distinct (suc i) (suc j) y e f in omega arith
 
-distinct_head : {X : Type 0} (x : X) (xs : List X) (i : ℕ) (y : X) → AreDistinct (x ∷ xs) → slice_get xs i ≡ Some y → y ≢ x
+pub distinct_head : {X : Type 0} (x : X) (xs : List X) (i : ℕ) (y : X) → AreDistinct (x ∷ xs) → slice_get xs i ≡ Some y → y ≢ x
 distinct_head x xs i y distinct e same = let at : 0 ≡ suc i = distinct 0 (suc i) x refl (e ∙ ap Some same) in absurd (omega arith)
 
 -- the place of a name
