@@ -1,10 +1,9 @@
 -- The commands of a script in form give the script.
-use Rattle.std.proofs.Common.{◌≡◌, ℕ, zero, suc, ◌+◌, ◌≤◌, Bool, true, false, cond, ◌&&◌, List, [], ◌∷◌, ◌++◌, length, map, Option, None, Some, All, Result, Ok, Err, codes, refl, sym, ap, ◌∙◌, subst, append_assoc, append-nil, arith}
+use Rattle.std.proofs.Common.{◌≡◌, ℕ, ◌≤◌, Bool, true, false, cond, List, [], ◌∷◌, ◌++◌, map, Option, None, Some, All, Result, Ok, Err, codes, refl, sym, ap, ◌∙◌, subst, append_assoc, append-nil}
 use Rattle.std.specs.List.{AllByRecursion}
 use Rattle.std.proofs.lemmas.List.Elements.{recursion_from_All}
 use Rattle.mbqi_values.specs.declared.fault.FaultKind.{FaultKind}
 use Rattle.mbqi_values.specs.declared.fault.FaultKind.TheVariants.{BadForm, Twice}
-use Rattle.mbqi_values.specs.declared.fault.Refusal.{Refusal}
 use Rattle.mbqi_terms.specs.Distinct.{AreDistinct}
 use Rattle.mbqi_terms.specs.declared.formula.Formula.{Formula}
 use Rattle.mbqi_terms.specs.declared.script.Assertion.{Assertion}
@@ -20,9 +19,8 @@ use denote.Hole.Carrier.{hidden}
 use Rattle.script_text.specs.Text.{script_text}
 use Rattle.smtlib_decls.specs.Commands as commands
 use Rattle.smtlib_decls.specs.Commands.{asserted, by_command, command_meant, command_of, headed, renamed, signature_command, signature_declared, sorts_read, with_assertion}
-use Rattle.smtlib_decls.specs.Labels.{is_taken, label_of}
 use Rattle.smtlib_decls.specs.Means.{Means}
-use Rattle.smtlib_decls.specs.Scripts.{behind_form, is_exit, is_exit_word, nothing, script_from, script_meant, script_of}
+use Rattle.smtlib_decls.specs.Scripts.{behind_form, is_exit, is_exit_word, nothing, script_from, script_of}
 use Rattle.smtlib_decls.specs.declared.command.Command.{Command}
 use Rattle.smtlib_decls.specs.declared.command.Command.TheVariants as command
 use Rattle.smtlib_decls.specs.declared.progress.Progress.{Progress}
@@ -31,7 +29,7 @@ use Rattle.smtlib_terms.specs.declared.meaning.Meaning.TheVariants as meaning
 use Rattle.smtlib_terms.specs.declared.word.Word.TheVariants as word
 use Rattle.smtlib_terms.specs.declared.meaning.Side.{Side}
 use Rattle.smtlib_terms.specs.Meaning.{depth_of_formula}
-use Rattle.smtlib_terms.specs.Declaring.{Declarations, formula_read, sort_read}
+use Rattle.smtlib_terms.specs.Declaring.{formula_read, sort_read}
 use Rattle.smtlib_terms.specs.Names.{◌>>=◌}
 use Rattle.smtlib_terms.specs.Operators.{meant, plainly}
 use Rattle.smtlib_terms.specs.Reading.{is_list, trees_in}
@@ -45,7 +43,7 @@ use Rattle.printed_trees.specs.Trees.{assertion_command, formula_tree, function_
 use Rattle.printed_trees.proofs.Assertions.{read_as, told_apart}
 use Rattle.printed_trees.proofs.ReadFormulas.{formula_means}
 use Rattle.printed_trees.proofs.ReadParts.{word_means}
-use Rattle.printed_trees.proofs.ScriptTexts.{IsFunction, script_forms}
+use Rattle.printed_trees.proofs.ScriptTexts.{script_forms}
 use Rattle.printed_script.proofs.Declarations.{args_mean, function_is_new, result_means, sort_is_new}
 use Rattle.printed_script.proofs.Labels.{label_is, not_taken}
 

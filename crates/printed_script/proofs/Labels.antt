@@ -1,7 +1,6 @@
 -- The label of an asserted S-expression.
-use Rattle.std.proofs.Common.{◌≡◌, ℕ, zero, suc, ◌+◌, ℤ, pos, negsuc, Bool, true, false, ◌||◌, List, [], ◌∷◌, map, Option, None, Some, slice_get, Result, Ok, Err, codes, refl, sym, ap, ◌∙◌, subst, arith, ◌++◌, length}
+use Rattle.std.proofs.Common.{◌≡◌, ℕ, suc, ℤ, pos, negsuc, Bool, true, false, List, [], ◌∷◌, map, Option, None, Some, slice_get, Ok, codes, refl, ap, ◌∙◌, arith, ◌++◌, length}
 use Rattle.std.specs.List.{list_any}
-use Rattle.mbqi_values.specs.declared.fault.FaultKind.{FaultKind}
 use Rattle.mbqi_terms.specs.declared.formula.Formula.{Formula}
 use Rattle.mbqi_terms.specs.declared.script.Assertion.{Assertion}
 use Rattle.mbqi_terms.specs.declared.script.Function.{Function}
@@ -16,10 +15,10 @@ use Rattle.smtlib_printer.specs.Names.{name_in, variable_text}
 use Rattle.smtlib_terms.specs.Reading.{trees_in}
 use Rattle.smtlib_terms.specs.Words.{is_reserved_word, is_text}
 use Rattle.smtlib_terms.proofs.TermTrees.{trees_in-List, trees_in-Numeral, trees_in-Symbol}
-use Rattle.printed_trees.specs.InForm.{HasSort, HaveSorts, IsDeclared, IsFormula}
+use Rattle.printed_trees.specs.InForm.{HasSort, IsFormula}
 use Rattle.printed_trees.specs.Names.{AreToldApart}
 use Rattle.printed_trees.specs.Scripts.{DifferInLabels}
-use Rattle.printed_trees.specs.Trees.{applied_tree, formula_tree, function_name_tree, labelled_tree, number_tree, term_tree, truth_tree}
+use Rattle.printed_trees.specs.Trees.{applied_tree, formula_tree, labelled_tree, number_tree, term_tree, truth_tree}
 use Rattle.printed_trees.proofs.Lists.{other_text}
 use Rattle.printed_trees.proofs.Scopes.{function_found}
 use Rattle.printed_trees.proofs.TreeLaws as tree_law

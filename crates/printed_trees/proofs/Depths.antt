@@ -1,13 +1,13 @@
 -- The depths of parts, and of what terms mean.
-use Rattle.std.proofs.Common.{◌≡◌, ◌≤◌, ℕ, zero, suc, ◌+◌, max, List, [], ◌∷◌, map, refl, sym, ap, ◌∙◌, arith}
+use Rattle.std.proofs.Common.{◌≡◌, ◌≤◌, ℕ, max, List, [], ◌∷◌, refl, arith}
 use Rattle.std.specs.List.{fold}
 use Rattle.mbqi_terms.specs.declared.sort.Plain.{Plain}
 use Rattle.mbqi_terms.specs.declared.sort.Plain.TheVariants as plain
 use Rattle.mbqi_terms.specs.declared.term.Term.{Term}
-use Rattle.smtlib_terms.specs.Meaning.{deepest, depth_of, depth_of_term, sort_of, variables_of}
+use Rattle.smtlib_terms.specs.Meaning.{deepest, depth_of, depth_of_term, sort_of}
 use Rattle.smtlib_terms.specs.Names.{plain_sort}
 use Rattle.smtlib_terms.specs.Operators.{term_meant}
-use Rattle.measured_terms.proofs.FormulaLaws.{depth-Atom, variables-Atom}
+use Rattle.measured_terms.proofs.FormulaLaws.{depth-Atom}
 
 more_deep : (n m : ℕ) (ds : List ℕ) → n ≤ m → fold max n ds ≤ fold max m ds
 more_deep n m [] le = le

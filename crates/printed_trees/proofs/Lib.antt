@@ -19,3 +19,4 @@ pub mod Legal
 pub mod Assertions
 pub mod TextsRead
 pub mod ScriptTexts
+mod Rows

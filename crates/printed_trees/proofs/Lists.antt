@@ -1,6 +1,6 @@
 -- Names by their places in lists where each stands once.
-use Rattle.std.proofs.Common.{◌≡◌, ◌≢◌, ◌<◌, ◌≤◌, ℕ, zero, suc, ◌+◌, Bool, true, false, cond, not, ltb, List, [], ◌∷◌, map, length, Option, Some, None, All, slice_get, refl, sym, ap, ◌∙◌, subst, arith}
-use Rattle.std.specs.List.{position, prefix_len}
+use Rattle.std.proofs.Common.{◌≡◌, ◌≢◌, ◌<◌, ℕ, zero, suc, ◌+◌, Bool, true, false, cond, not, ltb, List, [], ◌∷◌, map, length, Some, None, All, slice_get, refl, sym, ap, ◌∙◌, subst, arith}
+use Rattle.std.specs.List.{prefix_len}
 use Rattle.std.proofs.lemmas.Bool.Decides.{nat_tests}
 use Rattle.std.proofs.lemmas.Slice.Eq.{bytes_eq-Decides}
 use Rattle.std.proofs.lemmas.Option.{slice_get_within, get_or_from_slice_get}
@@ -68,7 +68,8 @@ function_at (g ∷ gs) at (suc i) f distinct e =
     let other : is_text f.name g.name ≡ false =
     other_text f.name g.name (distinct_head g.name (map (λ (f : Function). f.name) gs) i f.name distinct (get_map (λ (f : Function). f.name) gs i f e)) in
     let number : at + 1 + i ≡ at + suc i = omega arith in
-    rw other (later ∙ ap (λ (n : ℕ). Some (n, f)) number)
+    let found : function_named f.name (at + 1) gs ≡ Some (at + suc i, f) = later ∙ ap (λ (n : ℕ). Some (n, f)) number in
+    rw other found
 
 -- what all elements have, an element at a place has
 pub all_get : {X : Type 0} (P : X → Type 0) (xs : List X) (i : ℕ) (x : X) → All P xs → slice_get xs i ≡ Some x → P x

@@ -1,31 +1,26 @@
 -- What operators make of what terms mean.
-use Rattle.std.proofs.Common.{◌≡◌, ◌≢◌, ◌<◌, ◌≤◌, ℕ, zero, suc, ◌+◌, ◌-◌, ◌^◌, ℤ, pos, negsuc, ◌+ℤ◌, Bool, true, false, cond, ◌&&◌, eqb, List, [], ◌∷◌, length, map, replicate, Option, Some, None, Result, Ok, Err, refl, sym, ap, ◌∙◌, arith}
-use Rattle.std.proofs.lemmas.Bool.Decides.{nat_tests}
+use Rattle.std.proofs.Common.{◌≡◌, ◌≢◌, zero, suc, ◌^◌, ℤ, pos, negsuc, Bool, true, false, cond, List, [], ◌∷◌, length, map, Some, None, Result, Ok, Err, refl, ap, ◌∙◌}
 use Rattle.std.proofs.Math.IntN.{+ℤ_idl}
 use Rattle.mbqi_values.specs.declared.fault.FaultKind.{FaultKind}
-use Rattle.mbqi_values.specs.declared.fault.FaultKind.TheVariants.{BoundArray, OffsetTooWide, WrongCount, WrongSort}
-use Rattle.mbqi_terms.specs.declared.formula.Formula.{Formula}
+use Rattle.mbqi_values.specs.declared.fault.FaultKind.TheVariants.{OffsetTooWide}
 use Rattle.mbqi_terms.specs.declared.formula.Formula.TheVariants as formula
 use Rattle.mbqi_terms.specs.declared.script.Script.{Script}
 use Rattle.mbqi_terms.specs.declared.sort.Binder.{Binder}
 use Rattle.mbqi_terms.specs.declared.sort.Plain.{Plain}
 use Rattle.mbqi_terms.specs.declared.sort.Plain.TheVariants as plain
-use Rattle.mbqi_terms.specs.declared.sort.Sort.{Sort}
 use Rattle.mbqi_terms.specs.declared.sort.Sort.TheVariants as sort
 use Rattle.mbqi_terms.specs.declared.term.ArrayTerm.{ArrayTerm}
 use Rattle.mbqi_terms.specs.declared.term.ArrayTerm.TheBlock.{hidden-the_row-Term-1}
 use Rattle.mbqi_terms.specs.declared.term.ArrayTerm.TheVariants as array
-use Rattle.mbqi_terms.specs.declared.term.MapOp.{MapOp}
-use Rattle.mbqi_terms.specs.declared.term.Symbol.TheVariants as symbol
 use Rattle.mbqi_terms.specs.declared.term.Term.{Term, out-Term}
 use Rattle.mbqi_terms.specs.declared.term.Term.TheVariants as term
 use Rattle.mbqi_terms.specs.Tree.{IsBase}
 use denote.Hole.Carrier.{hidden}
 use Rattle.smtlib_terms.specs.declared.meaning.Meaning.{Meaning}
 use Rattle.smtlib_terms.specs.declared.meaning.Meaning.TheVariants as meaning
-use Rattle.smtlib_terms.specs.Applying.{Pointwise, are_over, arrays_of, have_sorts, is_over, mapped_over, terms_of}
-use Rattle.smtlib_terms.specs.Meaning.{sort_of, varies}
-use Rattle.smtlib_terms.specs.Names.{◌>>=◌, is_plain, is_sort, plain_sort}
+use Rattle.smtlib_terms.specs.Applying.{are_over, arrays_of, have_sorts, terms_of}
+use Rattle.smtlib_terms.specs.Meaning.{varies}
+use Rattle.smtlib_terms.specs.Names.{◌>>=◌, plain_sort}
 use Rattle.smtlib_terms.specs.Number.{Sum, is_within, plus_number, sum_of, sum_of_terms, summed}
 use Rattle.smtlib_terms.specs.Operators.{addition, as_plain, constant, defaulting, integer_meant, selection, storing, term_meant, unbound}
 use Rattle.printed_trees.specs.InForm.{AreArrays, HasSort, HaveSorts, IsElement, IsIndexSort}

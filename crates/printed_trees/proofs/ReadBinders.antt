@@ -1,23 +1,21 @@
 -- How binders read, and quantifiers over a body that reads.
-use Rattle.std.proofs.Common.{◌≡◌, ◌≢◌, ◌<◌, ◌≤◌, ℕ, zero, suc, ◌+◌, ◌^◌, Bool, true, false, cond, ◌&&◌, List, [], ◌∷◌, ◌++◌, length, map, Option, Some, None, Result, Ok, Err, refl, sym, ap, ◌∙◌, subst, arith}
+use Rattle.std.proofs.Common.{◌≡◌, ◌≢◌, ◌<◌, ◌≤◌, ℕ, zero, suc, ◌+◌, ◌^◌, Bool, true, false, cond, ◌&&◌, List, [], ◌∷◌, ◌++◌, length, map, Result, Ok, Err, refl, sym, ap, ◌∙◌, arith}
 use Rattle.std.specs.List.{list_all}
 use Rattle.mbqi_values.specs.declared.fault.FaultKind.{FaultKind}
-use Rattle.mbqi_values.specs.declared.fault.FaultKind.TheVariants.{BadForm, ReservedName, Twice}
+use Rattle.mbqi_values.specs.declared.fault.FaultKind.TheVariants.{BadForm}
 use Rattle.mbqi_terms.specs.declared.formula.Formula.{Formula}
-use Rattle.mbqi_terms.specs.declared.formula.Formula.TheVariants as formula
 use Rattle.mbqi_terms.specs.declared.script.Script.{Script}
 use Rattle.mbqi_terms.specs.declared.sort.Binder.{Binder}
 use Rattle.mbqi_terms.specs.declared.sort.Sort.{Sort}
 use Rattle.mbqi_terms.specs.declared.sort.Sort.TheVariants as sort
 use Rattle.sexpr_text.specs.declared.tree.Sexpr.{Sexpr}
-use Rattle.sexpr_text.specs.declared.tree.Sexpr.TheVariants as tree
 use Rattle.smtlib_printer.specs.Names.{variable_text}
 use Rattle.smtlib_terms.specs.declared.meaning.Meaning.{Meaning}
 use Rattle.smtlib_terms.specs.declared.meaning.Meaning.TheVariants as meaning
 use Rattle.smtlib_terms.specs.declared.names.Binding.{Binding}
 use Rattle.smtlib_terms.specs.declared.names.Variable.{Variable}
 use Rattle.smtlib_terms.specs.declared.word.Word.{Word}
-use Rattle.smtlib_terms.specs.Names.{◌>>=◌, sort_meant}
+use Rattle.smtlib_terms.specs.Names.{◌>>=◌}
 use Rattle.smtlib_terms.specs.Reading as reading
 use Rattle.smtlib_terms.specs.Reading.{are_binders, bindable, binder_name, binder_sort, binders_of, body_read, first_text, is_binder, is_pair, part_of, quantifiable, quantified, quantified_meant, quantifier_binders, quantifier_read, second_sort, trees_in}
 use Rattle.smtlib_terms.specs.Words.{is_one_of, is_reserved, is_reserved_word, is_text}

@@ -1,6 +1,6 @@
 -- The S-expression of a formula in form means it.
-use Rattle.std.proofs.Common.{◌≡◌, ◌≤◌, ℕ, zero, suc, ◌+◌, Bool, true, false, cond, List, [], ◌∷◌, ◌++◌, length, map, Result, Ok, Err, refl, sym, ap, ◌∙◌, subst, arith}
-use Rattle.std.specs.Prelude.{codes, max}
+use Rattle.std.proofs.Common.{◌≡◌, ◌≤◌, ℕ, ◌+◌, Bool, cond, List, [], ◌∷◌, ◌++◌, length, map, Result, Ok, Err, refl, ap, ◌∙◌, subst, arith}
+use Rattle.std.specs.Prelude.{codes}
 use Rattle.mbqi_values.specs.declared.fault.FaultKind.{FaultKind}
 use Rattle.mbqi_values.specs.declared.fault.FaultKind.TheVariants.{WrongCount}
 use Rattle.mbqi_terms.specs.declared.formula.Formula.{Formula}
@@ -16,11 +16,11 @@ use Rattle.smtlib_terms.specs.declared.meaning.Meaning.{Meaning}
 use Rattle.smtlib_terms.specs.declared.meaning.Meaning.TheVariants as meaning
 use Rattle.smtlib_terms.specs.declared.word.Word.TheVariants as word
 use Rattle.smtlib_terms.specs.Meaning.{deepest, depth_of_formula, variables_in}
-use Rattle.smtlib_terms.specs.Names.{◌>>=◌, plain_sort}
+use Rattle.smtlib_terms.specs.Names.{◌>>=◌}
 use Rattle.smtlib_terms.specs.Operators.{applied, as_formulas, connective, formula_meant, joined, meant, term_meant}
-use Rattle.smtlib_terms.specs.Reading.{part_of, parts_read, quantified}
+use Rattle.smtlib_terms.specs.Reading.{part_of, parts_read}
 use Rattle.measured_terms.proofs.FormulaLaws as measure
-use Rattle.printed_trees.specs.InForm.{AreBound, AreFormulas, IsFormula, IsIndexSort}
+use Rattle.printed_trees.specs.InForm.{AreFormulas, IsFormula, IsIndexSort}
 use Rattle.printed_trees.specs.Names.{AreSmall, AreToldApart, bindings_of, signature_of}
 use Rattle.printed_trees.specs.Trees.{array_tree, binders_tree, formula_tree, term_tree}
 use Rattle.printed_trees.proofs.Depths.{first_deep, rest_deep}
@@ -28,7 +28,7 @@ use Rattle.printed_trees.proofs.ReadBinders.{binders_own, quantifier_ok}
 use Rattle.printed_trees.proofs.ReadNames.{own_plain, own_sort}
 use Rattle.printed_trees.proofs.ReadNumbers.{truth_means}
 use Rattle.printed_trees.proofs.ReadParts.{le_true, one_read, parts_more, sides_read, three_read, word_means}
-use Rattle.printed_trees.proofs.ReadTerms.{Reads, array_means, at_tree, no_more, term_means}
+use Rattle.printed_trees.proofs.ReadTerms.{Reads, array_means, at_tree, term_means}
 use Rattle.printed_trees.proofs.Scopes.{bound_small}
 use Rattle.printed_trees.proofs.TreeLaws as tree_law
 use Rattle.printed_trees.proofs.Words.{and_word, at_most_word, equal_word, exists_word, forall_word, ite_word, not_word, or_word}

@@ -1,5 +1,5 @@
 -- How pointwise maps read.
-use Rattle.std.proofs.Common.{◌≡◌, ◌≤◌, ℕ, zero, suc, ◌+◌, Bool, true, false, cond, eqb, List, [], ◌∷◌, length, map, replicate, Option, Some, None, slice_get, Result, Ok, Err, refl, sym, ap, ◌∙◌, subst, arith}
+use Rattle.std.proofs.Common.{◌≡◌, ℕ, zero, suc, Bool, true, false, cond, eqb, List, [], ◌∷◌, length, map, replicate, Option, slice_get, Result, Ok, Err, refl, ap, ◌∙◌, arith}
 use Rattle.std.specs.Prelude.{codes}
 use Rattle.std.proofs.lemmas.Bool.Decides.{nat_tests}
 use Rattle.mbqi_values.specs.declared.fault.FaultKind.{FaultKind}
@@ -18,21 +18,20 @@ use Rattle.mbqi_terms.specs.declared.term.MapOp.TheVariants as op
 use Rattle.sexpr_text.specs.declared.tree.Sexpr.{Sexpr}
 use Rattle.sexpr_text.specs.declared.tree.Sexpr.TheVariants as tree
 use Rattle.smtlib_printer.specs.Names.{name_in}
-use Rattle.smtlib_terms.specs.declared.meaning.Bound.{Bound}
 use Rattle.smtlib_terms.specs.declared.meaning.Meaning.{Meaning}
 use Rattle.smtlib_terms.specs.declared.meaning.Meaning.TheVariants as meaning
-use Rattle.smtlib_terms.specs.Applying.{Pointwise, are_over, arrays_of, bound_pointwise, connective_of, function_pointwise, mapped, mapped_over, plain_of, pointwise_named}
+use Rattle.smtlib_terms.specs.Applying.{Pointwise, are_over, arrays_of, bound_pointwise, function_pointwise, mapped, mapped_over, plain_of, pointwise_named}
 use Rattle.smtlib_terms.specs.Meaning.{varies}
 use Rattle.smtlib_terms.specs.Names.{◌>>=◌, plain_sort}
 use Rattle.smtlib_terms.specs.Operators.{unbound}
-use Rattle.smtlib_terms.specs.Reading.{Head, Mapped, head_of, mapped_head}
-use Rattle.smtlib_terms.specs.Words.{is_reserved_word, is_text}
+use Rattle.smtlib_terms.specs.Reading.{Mapped, head_of, mapped_head}
+use Rattle.smtlib_terms.specs.Words.{is_reserved_word}
 use Rattle.printed_trees.specs.InForm.{AreArrays, IsDeclared, IsPointwise}
 use Rattle.printed_trees.specs.Names.{AreSmall, AreToldApart, bindings_of, signature_of}
 use Rattle.printed_trees.specs.Trees.{map_tree, word_tree}
 use Rattle.printed_trees.proofs.Meanings.{arrays_count, arrays_meant, arrays_over, arrays_terms, unbound_ok}
 use Rattle.printed_trees.proofs.ReadParts.{list_is_head}
-use Rattle.printed_trees.proofs.Scopes.{IsFound, function_found}
+use Rattle.printed_trees.proofs.Scopes.{function_found}
 use Rattle.printed_trees.proofs.Words.{no_word}
 
 and_reserved : is_reserved_word (codes "and") ≡ true

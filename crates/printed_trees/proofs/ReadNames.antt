@@ -1,40 +1,32 @@
 -- How the names of functions and variables read.
-use Rattle.std.proofs.Common.{◌≡◌, ◌≢◌, ◌<◌, ◌≤◌, ℕ, zero, suc, ◌+◌, ◌^◌, Bool, true, false, cond, eqb, List, [], ◌∷◌, ◌++◌, length, map, replicate, Option, Some, None, slice_get, Result, Ok, Err, refl, sym, ap, ◌∙◌, subst, arith}
-use Rattle.std.specs.Prelude.{codes, decimal}
+use Rattle.std.proofs.Common.{◌≡◌, ◌<◌, ℕ, zero, suc, true, false, eqb, List, [], length, Option, Some, slice_get, Ok, refl, ap, ◌∙◌, arith}
+use Rattle.std.specs.Prelude.{codes}
 use Rattle.std.proofs.lemmas.Bool.Decides.{nat_tests}
-use Rattle.mbqi_values.specs.declared.fault.FaultKind.{FaultKind}
-use Rattle.mbqi_values.specs.declared.fault.FaultKind.TheVariants.{UnknownName, WrongCount, WrongSort}
-use Rattle.mbqi_terms.specs.declared.formula.Formula.TheVariants as formula
 use Rattle.mbqi_terms.specs.declared.script.Function.{Function}
 use Rattle.mbqi_terms.specs.declared.script.Script.{Script}
 use Rattle.mbqi_terms.specs.declared.sort.Binder.{Binder}
 use Rattle.mbqi_terms.specs.declared.sort.Plain.{Plain}
 use Rattle.mbqi_terms.specs.declared.sort.Plain.TheVariants as plain
 use Rattle.mbqi_terms.specs.declared.sort.Sort.{Sort}
-use Rattle.mbqi_terms.specs.declared.sort.Sort.TheVariants as sort
-use Rattle.mbqi_terms.specs.declared.term.ArrayTerm.TheVariants as array
 use Rattle.mbqi_terms.specs.declared.term.Symbol.TheVariants as symbol
-use Rattle.mbqi_terms.specs.declared.term.Term.{Term}
 use Rattle.mbqi_terms.specs.declared.term.Term.TheVariants as term
 use Rattle.sexpr_text.specs.declared.tree.Sexpr.TheVariants as tree
 use Rattle.smtlib_printer.specs.Names.{name_in, variable_text}
 use Rattle.smtlib_terms.specs.declared.meaning.Bound.{Bound}
-use Rattle.smtlib_terms.specs.declared.meaning.Bound.TheVariants.{Variable}
 use Rattle.smtlib_terms.specs.declared.meaning.Meaning.{Meaning}
 use Rattle.smtlib_terms.specs.declared.meaning.Meaning.TheVariants as meaning
 use Rattle.smtlib_terms.specs.declared.meaning.Side.TheVariants.{Meant}
-use Rattle.smtlib_terms.specs.declared.names.Binding.{Binding}
-use Rattle.smtlib_terms.specs.Applying.{application, bound_applied, declared_applied, fitting, function_applied, have_sorts, name_applied, terms_of}
+use Rattle.smtlib_terms.specs.Applying.{application, bound_applied, fitting, function_applied, have_sorts, name_applied, terms_of}
 use Rattle.smtlib_terms.specs.Names.{is_plain, is_sort, plain_sort}
 use Rattle.smtlib_terms.specs.Operators.{meant, term_meant}
 use Rattle.smtlib_terms.specs.Reading.{side, symbol}
-use Rattle.smtlib_terms.specs.Words.{is_reserved_word, is_text}
+use Rattle.smtlib_terms.specs.Words.{is_reserved_word}
 use Rattle.smtlib_terms.proofs.TermTrees.{side-Symbol}
 use Rattle.printed_trees.specs.InForm.{IsDeclared, IsIndexSort, sort_at}
 use Rattle.printed_trees.specs.Means.{Means}
 use Rattle.printed_trees.specs.Names.{AreSmall, AreToldApart, bindings_of, signature_of}
 use Rattle.printed_trees.specs.Trees.{function_name_tree, variable_tree}
-use Rattle.printed_trees.proofs.Scopes.{IsFound, function_found, variable_found}
+use Rattle.printed_trees.proofs.Scopes.{function_found, variable_found}
 use Rattle.printed_trees.proofs.Words.{no_word}
 
 -- sorts are themselves

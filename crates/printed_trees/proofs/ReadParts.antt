@@ -1,5 +1,5 @@
 -- How a list reads, by its head and by how its parts read.
-use Rattle.std.proofs.Common.{◌≡◌, ◌≤◌, ℕ, zero, suc, ◌+◌, Bool, true, false, cond, leb, List, [], ◌∷◌, map, Result, Ok, Err, refl, sym, ap, ◌∙◌, arith}
+use Rattle.std.proofs.Common.{◌≡◌, ◌≤◌, ℕ, ◌+◌, Bool, true, cond, leb, List, [], ◌∷◌, map, Result, Ok, Err, refl, ap, ◌∙◌, arith}
 use Rattle.std.proofs.lemmas.Bool.Decides.{nat_tests}
 use Rattle.mbqi_values.specs.declared.fault.FaultKind.{FaultKind}
 use Rattle.mbqi_values.specs.declared.fault.FaultKind.TheVariants.{TooDeep}
@@ -9,13 +9,13 @@ use Rattle.sexpr_text.specs.declared.tree.Sexpr.TheVariants as tree
 use denote.Hole.Carrier.{hidden}
 use Rattle.smtlib_terms.specs.declared.meaning.Meaning.{Meaning}
 use Rattle.smtlib_terms.specs.declared.meaning.Side.{Side}
-use Rattle.smtlib_terms.specs.declared.meaning.Side.TheVariants.{Meant, Difference}
+use Rattle.smtlib_terms.specs.declared.meaning.Side.TheVariants.{Meant}
 use Rattle.smtlib_terms.specs.declared.names.Binding.{Binding}
 use Rattle.smtlib_terms.specs.declared.word.Word.{Word}
 use Rattle.smtlib_terms.specs.Meaning.{depth_of, variables_of}
 use Rattle.smtlib_terms.specs.Names.{◌>>=◌, Signature}
-use Rattle.smtlib_terms.specs.Operators.{applied, plainly}
-use Rattle.smtlib_terms.specs.Reading.{Head, Constant, Mapped, Named, NoHead, Reading, body_read, head_of, headed_read, list_head, named_read, part_of, parts_read, relation_read, shallow_side, side, trees_in, values_read}
+use Rattle.smtlib_terms.specs.Operators.{applied}
+use Rattle.smtlib_terms.specs.Reading.{Head, Named, Reading, body_read, head_of, headed_read, list_head, named_read, part_of, parts_read, relation_read, shallow_side, trees_in, values_read}
 use Rattle.smtlib_terms.specs.Words.{word_of}
 use Rattle.smtlib_terms.proofs.TermTrees.{side-List, trees_in-List}
 use Rattle.printed_trees.specs.Means.{Means}

@@ -1,5 +1,5 @@
 -- How sorts read.
-use Rattle.std.proofs.Common.{◌≡◌, ◌<◌, ℕ, Bool, true, false, cond, List, [], ◌∷◌, length, Option, Some, None, slice_get, unwrap_or, Result, Ok, Err, refl, sym, ap, ◌∙◌, subst}
+use Rattle.std.proofs.Common.{◌≡◌, ◌<◌, ℕ, true, false, List, [], ◌∷◌, length, Option, Some, slice_get, unwrap_or, Result, Ok, refl, sym, ap, ◌∙◌, subst}
 use Rattle.std.specs.Prelude.{codes}
 use Rattle.std.proofs.lemmas.Option.{slice_get-get_or}
 use Rattle.mbqi_values.specs.declared.fault.FaultKind.{FaultKind}
@@ -8,14 +8,13 @@ use Rattle.mbqi_terms.specs.declared.sort.Plain.{Plain}
 use Rattle.mbqi_terms.specs.declared.sort.Plain.TheVariants as plain
 use Rattle.mbqi_terms.specs.declared.sort.Sort.{Sort}
 use Rattle.mbqi_terms.specs.declared.sort.Sort.TheVariants as sort
-use Rattle.sexpr_text.specs.declared.tree.Sexpr.TheVariants as tree
 use Rattle.smtlib_terms.specs.Names.{◌>>=◌, array_sort, found_sort, place_of, plain_sort, sort_meant, sort_named}
-use Rattle.smtlib_terms.specs.Words.{is_reserved_word, is_text}
+use Rattle.smtlib_terms.specs.Words.{is_reserved_word}
 use Rattle.smtlib_terms.proofs.SortTrees.{sort_meant-List, sort_meant-Symbol}
 use Rattle.printed_trees.specs.InForm.{IsIndexSort, IsPlainSort, IsVariableSort}
-use Rattle.printed_trees.specs.Names.{AreToldApart, IsName}
+use Rattle.printed_trees.specs.Names.{AreToldApart}
 use Rattle.printed_trees.specs.Trees.{plain_tree, sort_name_tree, sort_tree, word_tree}
-use Rattle.printed_trees.proofs.Lists.{all_get, place_at}
+use Rattle.printed_trees.proofs.Lists.{place_at}
 use Rattle.printed_trees.proofs.Spelled.{index_plain, sort_is_name}
 use Rattle.printed_trees.proofs.Words.{no_reserved_word, no_word}
 

@@ -1,8 +1,7 @@
 -- The S-expression of a term or array term in form means it.
-use Rattle.std.proofs.Common.{◌≡◌, ◌≤◌, ℕ, zero, suc, ◌+◌, ℤ, pos, Bool, true, false, List, [], ◌∷◌, length, map, Option, Some, None, Result, Ok, Err, refl, sym, ap, ◌∙◌, subst, arith}
-use Rattle.std.specs.Prelude.{codes, max}
+use Rattle.std.proofs.Common.{◌≡◌, ◌≤◌, ℕ, ◌+◌, List, [], ◌∷◌, map, Option, Result, Ok, refl, ap, ◌∙◌, arith}
+use Rattle.std.specs.Prelude.{codes}
 use Rattle.mbqi_values.specs.declared.fault.FaultKind.{FaultKind}
-use Rattle.mbqi_terms.specs.declared.formula.Formula.TheVariants as formula
 use Rattle.mbqi_terms.specs.declared.script.Function.{Function}
 use Rattle.mbqi_terms.specs.declared.script.Script.{Script}
 use Rattle.mbqi_terms.specs.declared.sort.Binder.{Binder}
@@ -25,14 +24,13 @@ use Rattle.smtlib_terms.specs.declared.names.Binding.{Binding}
 use Rattle.smtlib_terms.specs.declared.word.Word.TheVariants as word
 use Rattle.smtlib_terms.specs.Applying.{application, fitting, mapped, name_applied, terms_of}
 use Rattle.smtlib_terms.specs.Meaning.{deepest, depth_of, depth_of_array, depth_of_term, variables_of}
-use Rattle.smtlib_terms.specs.Names.{◌>>=◌, Signature, plain_sort, sort_meant}
+use Rattle.smtlib_terms.specs.Names.{◌>>=◌, Signature, plain_sort}
 use Rattle.smtlib_terms.specs.Operators.{applied, constant, meant, term_meant}
 use Rattle.smtlib_terms.specs.Reading.{Constant, Mapped, head_of, part_of, parts_read, side, values_read}
 use Rattle.measured_terms.proofs.ArrayLaws as array_measure
 use Rattle.measured_terms.proofs.FormulaLaws as formula_measure
 use Rattle.measured_terms.proofs.TermLaws as term_measure
-use Rattle.measured_terms.specs.Measures.{depth_of_symbol}
-use Rattle.printed_trees.specs.InForm.{AreArrays, HasSort, HaveSorts, IsArray, IsDeclared, IsElement, IsIndexSort, IsPointwise}
+use Rattle.printed_trees.specs.InForm.{AreArrays, HasSort, HaveSorts, IsArray, IsDeclared, IsElement}
 use Rattle.printed_trees.specs.Means.{Means}
 use Rattle.printed_trees.specs.Names.{AreSmall, AreToldApart, bindings_of, signature_of}
 use Rattle.printed_trees.specs.Trees.{applied_tree, array_tree, function_name_tree, map_tree, number_tree, sort_tree, term_tree, word_tree}
@@ -43,7 +41,7 @@ use Rattle.printed_trees.proofs.ReadNames.{application_is, constant_means, fitti
 use Rattle.printed_trees.proofs.ReadNumbers.{number_means, offset_within, truth_means}
 use Rattle.printed_trees.proofs.ReadParts.{headed_means, list_is_head, one_read, parts_more, three_read, two_read, values_more, word_means}
 use Rattle.printed_trees.proofs.ReadSorts.{array_sort_means}
-use Rattle.printed_trees.proofs.Scopes.{IsFound, function_found}
+use Rattle.printed_trees.proofs.Scopes.{function_found}
 use Rattle.printed_trees.proofs.TreeLaws as tree_law
 use Rattle.printed_trees.proofs.Words.{default_word, name_word, plus_word, select_word, store_word}
 

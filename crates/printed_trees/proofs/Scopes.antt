@@ -1,5 +1,5 @@
 -- What names stand for in the scope of a script's variables.
-use Rattle.std.proofs.Common.{◌≡◌, ◌≢◌, ◌<◌, ◌≤◌, ℕ, zero, suc, ◌+◌, ◌^◌, Bool, true, false, cond, ◌||◌, eqb, List, [], ◌∷◌, ◌++◌, length, map, Option, Some, None, slice_get, refl, sym, ap, ◌∙◌, subst, arith}
+use Rattle.std.proofs.Common.{◌≡◌, ◌≢◌, ◌<◌, ◌≤◌, ℕ, zero, suc, ◌+◌, ◌^◌, Bool, true, false, cond, ◌||◌, eqb, List, [], ◌∷◌, ◌++◌, length, Option, Some, None, slice_get, refl, ap, ◌∙◌, subst, arith}
 use Rattle.std.specs.List.{list_any}
 use Rattle.std.proofs.lemmas.Bool.Decides.{nat_tests}
 use Rattle.mbqi_terms.specs.declared.script.Function.{Function}
@@ -10,8 +10,8 @@ use Rattle.smtlib_printer.specs.Names.{begins_with, is_begun, variable_text}
 use Rattle.smtlib_terms.specs.declared.meaning.Bound.TheVariants.{Variable}
 use Rattle.smtlib_terms.specs.Names.{bound_to, function_named}
 use Rattle.smtlib_terms.specs.Words.{is_reserved_word, is_text}
-use Rattle.printed_trees.specs.InForm.{AreBound, ArePlaced, IsDeclared, sort_at}
-use Rattle.printed_trees.specs.Names.{AreNamed, AreSmall, AreToldApart, IsName, bindings_of, function_names}
+use Rattle.printed_trees.specs.InForm.{AreBound, ArePlaced, sort_at}
+use Rattle.printed_trees.specs.Names.{AreSmall, AreToldApart, IsName, bindings_of, function_names}
 use Rattle.printed_trees.proofs.Decimals.{variable_begins, variables_differ}
 use Rattle.printed_trees.proofs.Lists.{all_get, function_at, get_map, other_text, own_text}
 use Rattle.printed_trees.proofs.Words.{no_reserved_word}

@@ -1,10 +1,9 @@
 -- The lines of a script's canonical text are those of its commands' S-expressions.
-use Rattle.std.proofs.Common.{◌≡◌, ℕ, ◌<◌, ◌≤◌, zero, suc, Bool, true, false, List, [], ◌∷◌, ◌++◌, length, map, Option, None, Some, All, codes, refl, sym, ap, ◌∙◌, subst, append_assoc}
+use Rattle.std.proofs.Common.{◌≡◌, ℕ, Bool, true, false, List, [], ◌∷◌, ◌++◌, map, Option, None, Some, All, codes, refl, ap, ◌∙◌, subst, append_assoc}
 use Rattle.std.specs.List.{AllByRecursion, flat_map, list_all}
 use Rattle.std.specs.Option.{IfSome}
 use Rattle.std.proofs.lemmas.List.Concat.{flat_map-append}
 use Rattle.std.proofs.lemmas.List.Elements.{recursion_from_All}
-use Rattle.std.proofs.lemmas.List.Folds.{flat_map-map}
 use Rattle.mbqi_terms.specs.declared.script.Assertion.{Assertion}
 use Rattle.mbqi_terms.specs.declared.script.Function.{Function}
 use Rattle.mbqi_terms.specs.declared.script.Script.{Script}
@@ -16,7 +15,7 @@ use Rattle.sexpr_text.specs.Depth.{IsShallow}
 use Rattle.sexpr_text.specs.Forms.{HaveForms}
 use Rattle.sexpr_text.specs.Front.{is_numeral}
 use Rattle.sexpr_text.specs.Legal.{is_legal}
-use Rattle.sexpr_text.specs.Text.{is_simple, text_of}
+use Rattle.sexpr_text.specs.Text.{is_simple}
 use Rattle.sexpr_text.specs.declared.tree.Form.{Form}
 use Rattle.sexpr_text.specs.declared.tree.Sexpr.{Sexpr}
 use Rattle.sexpr_text.specs.declared.tree.Sexpr.TheVariants as tree
@@ -26,7 +25,7 @@ use Rattle.smtlib_printer.specs.Names.{marks_of, name_text}
 use Rattle.smtlib_printer.specs.Text.{formula_text_with, list_text, sort_text}
 use Rattle.smtlib_printer.proofs.Pieces.{one_part, three_parts, two_parts}
 use Rattle.printed_trees.specs.InForm.{IsVariableSort}
-use Rattle.printed_trees.specs.Names.{AreNamed, AreToldApart, IsName}
+use Rattle.printed_trees.specs.Names.{AreToldApart, IsName}
 use Rattle.printed_trees.specs.Scripts.{IsAsserted, IsInForm, IsRanked, IsResultSort}
 use Rattle.printed_trees.specs.Trees.{assertion_command, formula_tree, function_command, labelled_tree, question_commands, script_trees, sort_command, sort_tree}
 use Rattle.printed_trees.proofs.Assertions.{told_apart}
@@ -195,7 +194,7 @@ pub record IsFunction (script : Script) (f : Function) : Type 0 where
 function_reads : (script : Script) (marks : ℕ) → AreToldApart script marks → (f : Function) → IsFunction script f → IsTextOf (function_text_of script f) (function_command script f)
 function_reads script marks told f is =
     let args = list_reads (map (sort_text script) f.args) (map (sort_tree script) f.args)
-        (all_map (IsVariableSort script) (sort_text script) (sort_tree script) f.args (sort_reads script marks told) (recursion_from_All (IsVariableSort script) f.args is.ranked.args)) in
+    (all_map (IsVariableSort script) (sort_text script) (sort_tree script) f.args (sort_reads script marks told) (recursion_from_All (IsVariableSort script) f.args is.ranked.args)) in
     list_reads (codes "declare-fun" ∷ name_text f.name ∷ list_text (map (sort_text script) f.args) ∷ sort_text script f.result ∷ [])
     (tree.Symbol (codes "declare-fun") ∷ tree.Symbol f.name ∷ tree.List (map (sort_tree script) f.args) ∷ sort_tree script f.result ∷ [])
     (declare_fun_reads, (name_reads f.name is.is_name.legal, (args, (result_reads script marks told f.result is.ranked.result, tt))))
@@ -210,10 +209,13 @@ assertion_reads : (script : Script) (marks : ℕ) → AreToldApart script marks 
 assertion_reads script marks told a is =
     let text = formula_text_with script marks a.formula in
     let t = formula_tree script marks a.formula in
-    list_reads (codes "assert" ∷ labelled_text_of a.label text ∷ []) (tree.Symbol (codes "assert") ∷ labelled_tree a.label t ∷ [])
-    (assert_reads,
-    (labelled_reads a.label text t is.label (written_as text t (formula_legal script marks told [] tt 0 a.formula is.formula) (formula_spelled script marks told [] tt 0 a.formula is.formula)),
-    tt))
+    list_reads (codes "assert" ∷ labelled_text_of a.label text ∷ []) (tree.Symbol (codes "assert") ∷ labelled_tree a.label t ∷ []) (
+      assert_reads,
+      (
+        labelled_reads a.label text t is.label (written_as text t (formula_legal script marks told [] tt 0 a.formula is.formula) (formula_spelled script marks told [] tt 0 a.formula is.formula)),
+        tt,
+      ),
+    )
 
 questions_read : (asks : Bool) → AllTexts (question_texts asks) (question_commands asks)
 questions_read true = (list_reads (codes "check-sat" ∷ []) (tree.Symbol (codes "check-sat") ∷ []) (question_reads, tt), tt)

@@ -1,10 +1,9 @@
 -- The text of each S-expression is the canonical text.
-use Rattle.std.proofs.Common.{◌≡◌, ◌<◌, ◌≤◌, ℕ, zero, suc, ◌+◌, ◌^◌, ℤ, pos, negsuc, Bool, true, false, cond, not, ◌&&◌, List, [], ◌∷◌, ◌++◌, length, map, replicate, Option, Some, None, slice_get, unwrap_or, refl, sym, ap, ◌∙◌, subst, arith}
+use Rattle.std.proofs.Common.{◌≡◌, ◌<◌, ◌≤◌, ℕ, suc, ◌+◌, ◌^◌, ℤ, pos, negsuc, Bool, true, false, cond, not, ◌&&◌, List, [], ◌∷◌, ◌++◌, length, map, Option, slice_get, unwrap_or, refl, sym, ap, ◌∙◌, subst, arith}
 use Rattle.std.specs.Prelude.{codes, decimal}
-use Rattle.std.specs.List.{flat_map, join_by}
+use Rattle.std.specs.List.{flat_map}
 use Rattle.std.proofs.lemmas.Option.{slice_get-get_or}
 use Rattle.mbqi_terms.specs.declared.formula.Formula.{Formula}
-use Rattle.mbqi_terms.specs.declared.formula.Formula.TheVariants as formula
 use Rattle.mbqi_terms.specs.declared.script.Function.{Function}
 use Rattle.mbqi_terms.specs.declared.script.Script.{Script}
 use Rattle.mbqi_terms.specs.declared.sort.Binder.{Binder}
@@ -13,11 +12,8 @@ use Rattle.mbqi_terms.specs.declared.sort.Plain.TheVariants as plain
 use Rattle.mbqi_terms.specs.declared.sort.Sort.{Sort}
 use Rattle.mbqi_terms.specs.declared.sort.Sort.TheVariants as sort
 use Rattle.mbqi_terms.specs.declared.term.ArrayTerm.{ArrayTerm}
-use Rattle.mbqi_terms.specs.declared.term.ArrayTerm.TheVariants as array
 use Rattle.mbqi_terms.specs.declared.term.MapOp.{MapOp}
-use Rattle.mbqi_terms.specs.declared.term.MapOp.TheVariants as op
 use Rattle.mbqi_terms.specs.declared.term.Term.{Term}
-use Rattle.mbqi_terms.specs.declared.term.Term.TheVariants as term
 use Rattle.sexpr_text.specs.Bytes.{is_symbol_byte}
 use Rattle.sexpr_text.specs.Text.{is_simple, text_of, texts_of}
 use Rattle.sexpr_text.specs.declared.tree.Sexpr.{Sexpr}
@@ -26,14 +22,13 @@ use Rattle.sexpr_text.proofs.Texts as written
 use Rattle.smtlib_printer.specs.Names.{function_name, name_in, name_text, sort_name, variable_text}
 use Rattle.smtlib_printer.specs.Text.{applied_text, array_text_with, binder_text, binders_text, formula_text_with, list_text, map_text, number_text, plain_text, sort_text, spaced, spaced_rest, term_text_with, truth_text}
 use Rattle.smtlib_printer.proofs.Pieces.{one_part}
-use Rattle.smtlib_terms.specs.Names.{plain_sort}
 use Rattle.smtlib_terms.specs.Words.{is_reserved_word}
 use Rattle.printed_trees.specs.InForm.{AreArrays, AreBound, AreFormulas, ArePlaced, HasSort, HaveSorts, IsArray, IsDeclared, IsElement, IsFormula, IsIndexSort, IsPlainSort, IsPointwise, IsVariableSort}
 use Rattle.printed_trees.specs.Names.{AreSmall, AreToldApart, IsName}
 use Rattle.printed_trees.specs.Trees.{applied_tree, array_tree, binder_tree, binders_tree, formula_tree, function_name_tree, map_tree, number_tree, plain_tree, sort_name_tree, sort_tree, term_tree, truth_tree, variable_tree, word_tree}
 use Rattle.printed_trees.proofs.Decimals.{variable_simple}
 use Rattle.printed_trees.proofs.Lists.{all_get}
-use Rattle.printed_trees.proofs.Scopes.{IsFound, bound_small, function_found, small_at}
+use Rattle.printed_trees.proofs.Scopes.{bound_small, function_found, small_at}
 use Rattle.printed_trees.proofs.TextLaws as text_law
 use Rattle.printed_trees.proofs.TreeLaws as tree_law
 use Rattle.printed_trees.proofs.Words.{no_reserved_word}

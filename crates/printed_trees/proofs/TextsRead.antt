@@ -1,15 +1,15 @@
 -- A text of which each name may stand between bars is read as its S-expression, in any place.
-use Rattle.std.proofs.Common.{◌≡◌, ℕ, ◌+◌, ◌-◌, ◌<◌, ◌≤◌, Bool, true, false, cond, ◌&&◌, not, eqb, max, List, [], ◌∷◌, ◌++◌, map, length, drop, None, Some, codes, refl, sym, ap, ◌∙◌, subst, arith, append_assoc, append-nil, length-append, ◌⊎◌, inl, inr}
+use Rattle.std.proofs.Common.{◌≡◌, ℕ, ◌+◌, ◌-◌, ◌<◌, ◌≤◌, Bool, true, false, cond, ◌&&◌, not, eqb, max, List, [], ◌∷◌, ◌++◌, map, length, drop, None, Some, codes, refl, sym, ap, ◌∙◌, subst, arith, append_assoc, length-append, ◌⊎◌, inl, inr}
 use Rattle.std.specs.List.{flat_map, list_all, AllByRecursion}
 use Rattle.std.proofs.Math.Seq.{drop-append_seam}
 use Rattle.std.proofs.lemmas.Bool.Decides.{nat_tests}
 use Rattle.mbqi_values.specs.declared.fault.FaultKind.TheVariants.{Unopened, TooDeep}
 use Rattle.sexpr_text.specs.Bytes.{class_of, is_quoted_content, is_symbol_byte}
 use Rattle.sexpr_text.specs.Depth.{depth_of, depth_layer, IsShallow}
-use Rattle.sexpr_text.specs.Forms.{spelled, BeginAt, EndAt, SpellForm, SpellForms, HaveForms}
+use Rattle.sexpr_text.specs.Forms.{spelled, BeginAt, EndAt, SpellForms, HaveForms}
 use Rattle.sexpr_text.specs.Front.{front_of}
 use Rattle.sexpr_text.specs.Legal.{is_legal}
-use Rattle.sexpr_text.specs.Lexis.{Placed, Lexed, Ended, Next, lexed, lexed_after, lexed_from, tokens_of, fault_from, open_limit}
+use Rattle.sexpr_text.specs.Lexis.{Placed, Lexed, Ended, Next, lexed_after, lexed_from, tokens_of, fault_from, open_limit}
 use Rattle.sexpr_text.specs.Text.{is_simple, text_of}
 use Rattle.sexpr_text.specs.declared.token.Front.TheVariants as front
 use Rattle.sexpr_text.specs.declared.token.Token.{Token}
@@ -20,7 +20,7 @@ use Rattle.sexpr_text.specs.declared.tree.Sexpr.TheFolds.{fold-roll-Sexpr}
 use Rattle.sexpr_text.specs.declared.tree.Sexpr.TheOpen.{Sexpr-F}
 use Rattle.sexpr_text.specs.declared.tree.Sexpr.TheVariants as sexpr
 use Rattle.sexpr_text.proofs.Fronts.{IsDelimited, bars_front}
-use Rattle.sexpr_text.proofs.Legality.{both, legal-Symbol}
+use Rattle.sexpr_text.proofs.Legality.{legal-Symbol}
 use Rattle.sexpr_text.proofs.ReadBack.{AreFaultless, TextHas, before, depth-List, depths, tree_back}
 use Rattle.sexpr_text.proofs.Soundness.{token_of, map-append, ends_with}
 use Rattle.sexpr_text.proofs.Spelling.{spelled-List, symbol_is_atom}
@@ -62,8 +62,8 @@ barred name legal at rest ends =
     let placed : Placed = record { token = Atom t; from = at; to = at + length text } in
     let flat = ap depth_of (sym (sexpr.rolls-Symbol name)) ∙ fold-roll-Sexpr ℕ depth_layer (Sexpr-F.Symbol name) in
     let begins : front_of (text ++ rest) ≡ front.Token (Atom t) (length text) =
-        ap (λ bytes. front_of (124 ∷ bytes)) (append_assoc name (124 ∷ []) rest) ∙ bars_front name rest legal
-        ∙ ap (front.Token (Atom t)) (omega (arith, length-append name (124 ∷ []))) in
+    ap (λ bytes. front_of (124 ∷ bytes)) (append_assoc name (124 ∷ []) rest) ∙ bars_front name rest legal
+    ∙ ap (front.Token (Atom t)) (omega (arith, length-append name (124 ∷ []))) in
     record {
       has = record {
         own = placed ∷ [];
@@ -257,10 +257,11 @@ none_open o = refl
 -- the forms of such lines
 pub lines_read : (texts : List (List ℕ)) (ts : List Sexpr) → AllTexts texts ts → AllByRecursion IsShallow ts → (forms : List Form) × HaveForms (lines_text texts) forms × (map (λ (form : Form). form.tree) forms ≡ ts)
 lines_read texts ts all shallow =
-    let back = lines_back texts ts all shallow 0 in
-    (back.forms,
-    record {
-      faultless = ap (fault_from 0 0) back.lexes ∙ (back.faultless Ended 0 0 (omega arith)).1 ∙ none_open _;
-      spelled = subst (λ tokens. SpellForms tokens back.forms) (sym (ap tokens_of back.lexes ∙ tokens-before back.own)) back.spelled;
-    },
-    back.trees)
+    let back = lines_back texts ts all shallow 0 in (
+      back.forms,
+      record {
+        faultless = ap (fault_from 0 0) back.lexes ∙ (back.faultless Ended 0 0 (omega arith)).1 ∙ none_open _;
+        spelled = subst (λ tokens. SpellForms tokens back.forms) (sym (ap tokens_of back.lexes ∙ tokens-before back.own)) back.spelled;
+      },
+      back.trees,
+    )

@@ -1,5 +1,5 @@
 -- The words of terms, and names that are none of them.
-use Rattle.std.proofs.Common.{◌≡◌, ℕ, Bool, true, false, ◌||◌, ◌&&◌, List, [], ◌∷◌, Option, None, refl, sym, ap, ◌∙◌}
+use Rattle.std.proofs.Common.{◌≡◌, ℕ, Bool, true, false, ◌||◌, List, [], ◌∷◌, None, refl, ap}
 use Rattle.std.specs.Prelude.{codes}
 use Rattle.std.specs.List.{list_all}
 use Rattle.smtlib_terms.specs.Words.{arithmetic_words, binder_words, connective_words, is_reserved, is_reserved_word, is_text, operation_words, relation_words, word_among, word_of}
