@@ -67,7 +67,7 @@ term_none script marks told scope t s (HasSort.application f ts args e d hs) =
     (same_none _ _ (ap (λ (o : Option Function). applied_tree (tree.Symbol (name_in o)) (map (term_tree script marks) ts)) d.there)
     (applied_none d.function.name (map (term_tree script marks) ts) (no_word d.function.name (codes "!") is.no_word at_reserved)))
 term_none script marks told scope t s (HasSort.reading a u i e h index g) = same_none _ _ (tree_law.term-Read script marks a u) (list_none (codes "select") _ refl)
-term_none script marks told scope t s (HasSort.last a e h plain_) = same_none _ _ (tree_law.term-Default script marks a) (list_none (codes "default") _ refl)
+term_none script marks told scope t s (HasSort.last a e h closed) = same_none _ _ (tree_law.term-Default script marks a) (list_none (codes "default") _ refl)
 
 formula_none : (script : Script) (marks : ℕ) (told : AreToldApart script marks) (scope : List Binder) (next : ℕ) (f : Formula) → IsFormula script scope next f → HasNone (formula_tree script marks f)
 formula_none script marks told scope next f (IsFormula.truth sc n b) = same_none _ _ (tree_law.formula-Truth script marks b) (truth_none b)

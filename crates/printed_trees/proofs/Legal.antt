@@ -202,7 +202,7 @@ mutual
   term_legal script marks told scope small t s (HasSort.reading a u i e h index g) =
       ap is_legal (tree_law.term-Read script marks a u)
       ∙ two_legal _ _ _ select_legal (array_legal script marks told scope small a i e h) (term_legal script marks told scope small u i g)
-  term_legal script marks told scope small t s (HasSort.last a e h plain_) =
+  term_legal script marks told scope small t s (HasSort.last a e h closed) =
       ap is_legal (tree_law.term-Default script marks a) ∙ one_legal _ _ default_legal (array_legal script marks told scope small a plain.Int e h)
 
   pub terms_legal : (script : Script) (marks : ℕ) (told : AreToldApart script marks) (scope : List Binder) (small : AreSmall scope) (ts : List Term) (ss : List Plain) → HaveSorts script scope ts ss → list_all is_legal (map (term_tree script marks) ts) ≡ true
@@ -216,13 +216,13 @@ mutual
 
   pub array_legal : (script : Script) (marks : ℕ) (told : AreToldApart script marks) (scope : List Binder) (small : AreSmall scope) (a : ArrayTerm) (i e : Plain) → IsArray script scope a i e → is_legal (array_tree script marks a) ≡ true
   array_legal script marks told scope small a i e (IsArray.name f j g d) = ap is_legal (tree_law.array-Name script marks f) ∙ declared_legal script marks f _ _ told d
-  array_legal script marks told scope small a i e (IsArray.store b t v j g h index ht hv plain_) =
+  array_legal script marks told scope small a i e (IsArray.store b t v j g h index ht hv closed) =
       ap is_legal (tree_law.array-Store script marks b t v)
       ∙ three_legal _ _ _ _ store_legal (array_legal script marks told scope small b j g h) (term_legal script marks told scope small t j ht) (element_legal script marks told scope small v g hv)
-  array_legal script marks told scope small a i e (IsArray.constant v j g index element hv plain_) =
+  array_legal script marks told scope small a i e (IsArray.constant v j g index element hv closed) =
       ap is_legal (tree_law.array-Const script marks (sort.Array j g) v)
       ∙ one_legal _ _ (two_legal _ _ _ as_word_legal const_word_legal (array_sort_legal script marks j g told index element)) (element_legal script marks told scope small v g hv)
-  array_legal script marks told scope small a i e (IsArray.pointwise f b bs j g es p hs plain_) =
+  array_legal script marks told scope small a i e (IsArray.pointwise f b bs j g es p hs closed) =
       ap is_legal (tree_law.array-Map script marks f (b ∷ bs))
       ∙ list_legal _ _ (two_legal _ _ _ underscore_legal map_word_legal (map_op_legal script marks f es g told p)) (arrays_legal script marks told scope small (b ∷ bs) j es hs)
 

@@ -52,9 +52,6 @@ get_map h [] i x e = cc
 get_map h (y ∷ ys) zero x e = let same : y ≡ x = cc in ap (λ z. Some (h z)) same
 get_map h (y ∷ ys) (suc i) x e = get_map h ys i x e
 
-abbrev name_of : Function → List ℕ
-name_of f = f.name
-
 -- the function of a name, with its number
 pub function_at : (functions : List Function) (at i : ℕ) (f : Function) → AreDistinct (map (λ (f : Function). f.name) functions) → slice_get functions i ≡ Some f → function_named f.name at functions ≡ Some (at + i, f)
 function_at [] at i f distinct e = cc
@@ -62,7 +59,8 @@ function_at (g ∷ gs) at zero f distinct e =
     let same : g ≡ f = cc in
     let own : is_text f.name g.name ≡ true = subst (λ (h : Function). is_text f.name h.name ≡ true) (sym same) (own_text f.name) in
     let number : at ≡ at + 0 = omega arith in
-    rw own (ap (λ (h : Function). Some (at, h)) same ∙ ap (λ (n : ℕ). Some (n, f)) number)
+    let found : Some (at, g) ≡ Some (at + 0, f) = ap (λ (h : Function). Some (at, h)) same ∙ ap (λ (n : ℕ). Some (n, f)) number in
+    rw own found
 function_at (g ∷ gs) at (suc i) f distinct e =
     let later = function_at gs (at + 1) i f (distinct_tail g.name (map (λ (f : Function). f.name) gs) distinct) e in
     let other : is_text f.name g.name ≡ false =

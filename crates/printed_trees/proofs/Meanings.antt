@@ -122,7 +122,7 @@ base_sum script scope t s (HasSort.sum u n h base some within) is = absurd is
 base_sum script scope t s (HasSort.variable place e index found) is = refl
 base_sum script scope t s (HasSort.application f ts args e d hs) is = refl
 base_sum script scope t s (HasSort.reading a u i e h index g) is = refl
-base_sum script scope t s (HasSort.last a e h plain_) is = refl
+base_sum script scope t s (HasSort.last a e h closed) is = refl
 
 plus_some : (t : Term) (n : ℤ) → n ≢ pos 0 → plus_number t n ≡ term.Plus t n
 plus_some t (pos zero) some = absurd (some refl)

@@ -56,9 +56,6 @@ name_fits script marks told scope small next number f args e =
     let is = function_found script marks number f told e in
     ap (bound_applied (signature_of script) f.name next args) (is.unbound scope small) ∙ ap (function_applied args) is.found
 
-length_own : (n : ℕ) → eqb n n ≡ true
-length_own n = grind (arith, nat_tests)
-
 pub fitting_ok : (sorts : List Sort) (args : List Meaning) (m : Meaning) → length args ≡ length sorts → have_sorts sorts args ≡ true → fitting sorts args (Ok m) ≡ Ok m
 fitting_ok sorts args m e f =
     let same : eqb (length args) (length sorts) ≡ true = grind (arith, nat_tests) in

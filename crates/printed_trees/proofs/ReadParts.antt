@@ -50,9 +50,6 @@ pub list_is_head : (items : List Sexpr) → head_of (tree.List items) ≡ list_h
 list_is_head items = head_of-List items ∙ ap list_head (trees_in-List items)
 
 -- parts, each behind the one before it
-pub parts_none : (names : Signature) (scope : List Binding) (next : ℕ) → parts_read (map part_of []) names scope next ≡ Ok []
-parts_none names scope next = refl
-
 pub parts_more : (t : Sexpr) (ts : List Sexpr) (names : Signature) (scope : List Binding) (next : ℕ) (m : Meaning) (ms : List Meaning) →
     Means t names scope next m → parts_read (map part_of ts) names scope (next + variables_of m) ≡ Ok ms → parts_read (map part_of (t ∷ ts)) names scope next ≡ Ok (m ∷ ms)
 parts_more t ts names scope next m ms e f = rw (e, f) refl

@@ -1,5 +1,5 @@
 -- The S-expression of a term or array term in form means it.
-use Rattle.std.proofs.Common.{◌≡◌, ◌≤◌, ℕ, ◌+◌, List, [], ◌∷◌, map, Option, Result, Ok, refl, ap, ◌∙◌, arith}
+use Rattle.std.proofs.Common.{◌≡◌, ◌≤◌, ℕ, List, [], ◌∷◌, map, Option, Result, Ok, refl, ap, ◌∙◌, arith}
 use Rattle.std.specs.Prelude.{codes}
 use Rattle.mbqi_values.specs.declared.fault.FaultKind.{FaultKind}
 use Rattle.mbqi_terms.specs.declared.script.Function.{Function}
@@ -23,12 +23,11 @@ use Rattle.smtlib_terms.specs.declared.meaning.Side.TheVariants.{Meant}
 use Rattle.smtlib_terms.specs.declared.names.Binding.{Binding}
 use Rattle.smtlib_terms.specs.declared.word.Word.TheVariants as word
 use Rattle.smtlib_terms.specs.Applying.{application, fitting, mapped, name_applied, terms_of}
-use Rattle.smtlib_terms.specs.Meaning.{deepest, depth_of, depth_of_array, depth_of_term, variables_of}
+use Rattle.smtlib_terms.specs.Meaning.{deepest, depth_of, depth_of_array, depth_of_term}
 use Rattle.smtlib_terms.specs.Names.{◌>>=◌, Signature, plain_sort}
 use Rattle.smtlib_terms.specs.Operators.{applied, constant, meant, term_meant}
 use Rattle.smtlib_terms.specs.Reading.{Constant, Mapped, head_of, part_of, parts_read, side, values_read}
 use Rattle.measured_terms.proofs.ArrayLaws as array_measure
-use Rattle.measured_terms.proofs.FormulaLaws as formula_measure
 use Rattle.measured_terms.proofs.TermLaws as term_measure
 use Rattle.printed_trees.specs.InForm.{AreArrays, HasSort, HaveSorts, IsArray, IsDeclared, IsElement}
 use Rattle.printed_trees.specs.Means.{Means}
@@ -90,11 +89,6 @@ apply_means script marks told scope small next f ts args s d (HaveSorts.more_ter
 const_head : (script : Script) (s : Sort) → head_of (tree.List (word_tree (codes "as") ∷ word_tree (codes "const") ∷ sort_tree script s ∷ [])) ≡ Constant (sort_tree script s)
 const_head script s = list_is_head (word_tree (codes "as") ∷ word_tree (codes "const") ∷ sort_tree script s ∷ [])
 
-pub no_more : (next : ℕ) (s : Plain) (t : Term) → next + variables_of (term_meant s t) ≡ next
-no_more next plain.Truth t = let none = formula_measure.variables-Atom t in omega arith
-no_more next plain.Int t = omega arith
-no_more next (plain.Elem s) t = omega arith
-
 mutual
   pub term_means : (script : Script) (marks : ℕ) (told : AreToldApart script marks) (scope : List Binder) (small : AreSmall scope) (next : ℕ) (t : Term) (s : Plain) → HasSort script scope t s → depth_of_term t ≤ 1000 → Reads script marks scope next (term_tree script marks t) (term_meant s t)
   term_means script marks told scope small next t s (HasSort.number n within) deep =
@@ -122,14 +116,14 @@ mutual
       (two_read (array_tree script marks a) (term_tree script marks u) _ _ next (meaning.Array i e a) (term_meant i u) (array_means script marks told scope small next a i e h (omega arith)) (term_means script marks told scope small _ u i g (omega arith)))
       ∙ ap meant (selection_ok script a u i e index))
       (omega arith))
-  term_means script marks told scope small next t s (HasSort.last a e h plain_) deep =
+  term_means script marks told scope small next t s (HasSort.last a e h closed) deep =
       let below = term_measure.depth-Default a in
       let same = meant_deep e (term.Default a) in
       at_tree _ _ _ _ _ _ (tree_law.term-Default script marks a)
       (word_means (codes "default") word.Default (array_tree script marks a ∷ []) _ _ next (term_meant e (term.Default a)) default_word
       (ap (λ (r : Result (List Meaning) FaultKind). meant (r >>= applied word.Default))
       (one_read (array_tree script marks a) _ _ next (meaning.Array plain.Int e a) (array_means script marks told scope small next a plain.Int e h (omega arith)))
-      ∙ ap meant (defaulting_ok a e plain_))
+      ∙ ap meant (defaulting_ok a e closed))
       (omega arith))
 
   pub terms_mean : (script : Script) (marks : ℕ) (told : AreToldApart script marks) (scope : List Binder) (small : AreSmall scope) (next : ℕ) (ts : List Term) (ss : List Plain) → HaveSorts script scope ts ss → deepest (map depth_of_term ts) ≤ 1000 →
@@ -150,31 +144,31 @@ mutual
   pub array_means : (script : Script) (marks : ℕ) (told : AreToldApart script marks) (scope : List Binder) (small : AreSmall scope) (next : ℕ) (a : ArrayTerm) (i e : Plain) → IsArray script scope a i e → depth_of_array a ≤ 1000 → Reads script marks scope next (array_tree script marks a) (meaning.Array i e a)
   array_means script marks told scope small next a i e (IsArray.name f j g d) deep =
       at_tree _ _ _ _ _ _ (tree_law.array-Name script marks f) (constant_means script marks told scope small next f (sort.Array j g) d)
-  array_means script marks told scope small next a i e (IsArray.store b t v j g h index ht hv plain_) deep =
+  array_means script marks told scope small next a i e (IsArray.store b t v j g h index ht hv closed) deep =
       let below = array_measure.depth-Store b t v in
       at_tree _ _ _ _ _ _ (tree_law.array-Store script marks b t v)
       (word_means (codes "store") word.Store (array_tree script marks b ∷ term_tree script marks t ∷ term_tree script marks v ∷ []) _ _ next (meaning.Array j g (array.Store b t v)) store_word
       (ap (λ (r : Result (List Meaning) FaultKind). meant (r >>= applied word.Store))
       (three_read (array_tree script marks b) (term_tree script marks t) (term_tree script marks v) _ _ next (meaning.Array j g b) (term_meant j t) (element_meaning script scope v g hv)
       (array_means script marks told scope small next b j g h (omega arith)) (term_means script marks told scope small _ t j ht (omega arith)) (element_means script marks told scope small _ v g hv (omega arith)))
-      ∙ ap meant (storing_ok script scope b t v j g index hv plain_))
+      ∙ ap meant (storing_ok script scope b t v j g index hv closed))
       deep)
-  array_means script marks told scope small next a i e (IsArray.constant v j g index element hv plain_) deep =
+  array_means script marks told scope small next a i e (IsArray.constant v j g index element hv closed) deep =
       let below = array_measure.depth-Const (sort.Array j g) v in
       at_tree _ _ _ _ _ _ (tree_law.array-Const script marks (sort.Array j g) v)
       (headed_means (tree.List (word_tree (codes "as") ∷ word_tree (codes "const") ∷ sort_tree script (sort.Array j g) ∷ [])) (term_tree script marks v ∷ []) (signature_of script) (bindings_of marks scope) next (Constant (sort_tree script (sort.Array j g))) (meaning.Array j g (array.Const (sort.Array j g) v)) (const_head script (sort.Array j g))
       (ap (λ (r : Result Sort FaultKind). r >>= (λ (s : Sort). meant (parts_read (map part_of (term_tree script marks v ∷ [])) (signature_of script) (bindings_of marks scope) next >>= constant s))) (array_sort_means script marks j g told index element)
       ∙ (ap (λ (r : Result (List Meaning) FaultKind). meant (r >>= constant (sort.Array j g)))
       (one_read (term_tree script marks v) _ _ next (element_meaning script scope v g hv) (element_means script marks told scope small next v g hv (omega arith)))
-      ∙ ap meant (constant_ok script scope v j g hv plain_)))
+      ∙ ap meant (constant_ok script scope v j g hv closed)))
       deep)
-  array_means script marks told scope small next a i e (IsArray.pointwise f b bs j g es p hs plain_) deep =
+  array_means script marks told scope small next a i e (IsArray.pointwise f b bs j g es p hs closed) deep =
       let below = array_measure.depth-Map f (b ∷ bs) in
       at_tree _ _ _ _ _ _ (tree_law.array-Map script marks f (b ∷ bs))
       (headed_means (tree.List (word_tree (codes "_") ∷ word_tree (codes "map") ∷ map_tree script f ∷ [])) (map (array_tree script marks) (b ∷ bs)) (signature_of script) (bindings_of marks scope) next (Mapped (op_name script f)) (meaning.Array j g (array.Map f (b ∷ bs))) (map_head script f)
       (ap (λ (r : Result (List Meaning) FaultKind). meant (r >>= mapped (signature_of script) (bindings_of marks scope) (op_name script f)))
       (arrays_mean script marks told scope small next (b ∷ bs) j es hs (omega arith))
-      ∙ ap meant (mapped_ok script marks told scope small f j g es b bs p hs plain_))
+      ∙ ap meant (mapped_ok script marks told scope small f j g es b bs p hs closed))
       deep)
 
   pub arrays_mean : (script : Script) (marks : ℕ) (told : AreToldApart script marks) (scope : List Binder) (small : AreSmall scope) (next : ℕ) (arrays : List ArrayTerm) (i : Plain) (es : List Plain) → AreArrays script scope arrays i es → deepest (map depth_of_array arrays) ≤ 1000 →

@@ -242,7 +242,7 @@ mutual
       ap text_of (tree_law.term-Read script marks a u)
       ∙ (two_spelled _ _ _ _ _ _ select_spelled (array_is_spelled script marks told scope small a i e h) (term_spelled script marks told scope small u i g)
       ∙ sym (text_law.term-Read script marks a u))
-  term_spelled script marks told scope small t s (HasSort.last a e h plain_) =
+  term_spelled script marks told scope small t s (HasSort.last a e h closed) =
       ap text_of (tree_law.term-Default script marks a)
       ∙ (one_spelled _ _ _ _ default_spelled (array_is_spelled script marks told scope small a plain.Int e h)
       ∙ sym (text_law.term-Default script marks a))
@@ -260,15 +260,15 @@ mutual
   pub array_is_spelled : (script : Script) (marks : ℕ) (told : AreToldApart script marks) (scope : List Binder) (small : AreSmall scope) (a : ArrayTerm) (i e : Plain) → IsArray script scope a i e → text_of (array_tree script marks a) ≡ array_text_with script marks a
   array_is_spelled script marks told scope small a i e (IsArray.name f j g d) =
       ap text_of (tree_law.array-Name script marks f) ∙ (declared_spelled script marks f _ _ told d ∙ sym (text_law.array-Name script marks f))
-  array_is_spelled script marks told scope small a i e (IsArray.store b t v j g h index ht hv plain_) =
+  array_is_spelled script marks told scope small a i e (IsArray.store b t v j g h index ht hv closed) =
       ap text_of (tree_law.array-Store script marks b t v)
       ∙ (three_spelled _ _ _ _ _ _ _ _ store_spelled (array_is_spelled script marks told scope small b j g h) (term_spelled script marks told scope small t j ht) (element_spelled script marks told scope small v g hv)
       ∙ sym (text_law.array-Store script marks b t v))
-  array_is_spelled script marks told scope small a i e (IsArray.constant v j g index element hv plain_) =
+  array_is_spelled script marks told scope small a i e (IsArray.constant v j g index element hv closed) =
       ap text_of (tree_law.array-Const script marks (sort.Array j g) v)
       ∙ (one_spelled _ _ _ _ (two_spelled _ _ _ _ _ _ as_spelled const_spelled (array_sort_spelled script marks j g told index element)) (element_spelled script marks told scope small v g hv)
       ∙ sym (text_law.array-Const script marks (sort.Array j g) v))
-  array_is_spelled script marks told scope small a i e (IsArray.pointwise f b bs j g es p hs plain_) =
+  array_is_spelled script marks told scope small a i e (IsArray.pointwise f b bs j g es p hs closed) =
       ap text_of (tree_law.array-Map script marks f (b ∷ bs))
       ∙ (more_spelled _ _ _ _ (two_spelled _ _ _ _ _ _ underscore_spelled map_spelled (map_op_spelled script marks f es g told p)) (arrays_spelled script marks told scope small (b ∷ bs) j es hs)
       ∙ sym (text_law.array-Map script marks f (b ∷ bs)))
