@@ -1,0 +1,22 @@
+pub mod Lists
+pub mod Words
+pub mod TreeLaws
+pub mod TextLaws
+pub mod Decimals
+pub mod Scopes
+pub mod Spelled
+pub mod ReadParts
+pub mod ReadNumbers
+pub mod ReadNames
+pub mod ReadSorts
+pub mod Depths
+pub mod Meanings
+pub mod ReadMaps
+pub mod ReadTerms
+pub mod ReadBinders
+pub mod ReadFormulas
+pub mod Legal
+pub mod Assertions
+pub mod TextsRead
+pub mod ScriptTexts
+mod Rows

@@ -1,0 +1,5 @@
+pub mod Trees
+pub mod Names
+pub mod InForm
+pub mod Means
+pub mod Scripts

@@ -1,0 +1,14 @@
+-- The line by its three pieces.
+use Rattle.std.proofs.Common.{codes, refl}
+use Rattle.smtlib_printer.proofs.Pieces.{written}
+use Rattle.script_text.specs.Text.{declared_text, function_line}
+use Rattle.script_text.proofs.Pieces.{three_pieces}
+use Rattle.script_text.proofs.lines.write_function_declaration.Goals as goal
+
+pub returns : goal.returns
+unfolding function_line
+returns c =
+    written c.extend_from_slice-2.result _ _ _ _ c.extend_from_slice-2.ensures.items
+    (three_pieces c.args.into.now.items c.extend_from_slice.new.self.items c.write_declared.new.into.items
+    (codes "(declare-fun ") (declared_text c.args.script.now c.args.function.now) (codes ")\n") _
+    c.in_ok-extend_from_slice.ensures.items c.in_ok-write_declared.ensures refl)
