@@ -1,4 +1,4 @@
--- Of all forms of words only `solve FILE` is built so far.
+-- Of all forms of words only those of one file are built so far.
 use Rattle.std.proofs.Common.{◌≡◌, ℕ, Bool, true, false, not, ◌&&◌, cond, List, [], ◌∷◌, length, refl, ap}
 use Rattle.std.specs.Prelude.{Option, None, Some, codes, if◌then◌else◌}
 use Rattle.std.specs.Option.{option_and_then}

@@ -11,8 +11,11 @@ use Rattle.mbqi_terms.specs.declared.script.Script.{Script}
 use Rattle.function_model.specs.declared.model.FunctionModel.{FunctionModel}
 use Rattle.function_model.specs.Fits.{Fits}
 use Rattle.function_model.specs.Holds.{Holds}
-use Rattle.mbqi_app.specs.Command.{Command, Solve, asked_for, files_of}
+use Rattle.mbqi_app.specs.Command.{Command, Solve, Print, asked_for, files_of}
 use Rattle.first_profile.specs.Means.{Means}
+use Rattle.first_profile.specs.Means as first_profile
+use Rattle.smtlib_decls.specs.Means as smtlib
+use Rattle.script_text.specs.Text.{script_text}
 use Rattle.mbqi_app.specs.ModelText.{model_text}
 use Rattle.rule_form.specs.Rules.{count}
 use Rattle.mbqi_loop.specs.Journal.{IsJournal}
@@ -52,9 +55,15 @@ IsSolution bytes rise Sat text = IsSatText bytes rise text
 IsSolution bytes rise Unsat text = IsUnsatText bytes rise text
 IsSolution bytes rise status text = ⊥
 
+-- What `print` may write for a file, by its status: the canonical text of the script of the bytes.
+abbrev pub IsPrinted : List ℕ → Status → List ℕ → Type 0
+IsPrinted bytes Done text = (script : Script) × smtlib.Means bytes script × (text ≡ script_text script)
+IsPrinted bytes status text = ⊥
+
 -- What a command may write for the contents of its files, by its status, after the counter rose so far.
 abbrev pub IsAnswer : Command → List (List ℕ) → ℕ → Status → List ℕ → Type 0
 IsAnswer (Solve None file) (bytes ∷ []) rise status text = IsSolution bytes rise status text
+IsAnswer (Print file) (bytes ∷ []) rise status text = (rise ≡ 0) × IsPrinted bytes status text
 IsAnswer command contents rise status text = ⊥
 
 -- The statuses with an answer.
@@ -83,10 +92,11 @@ abbrev pub IfScriptRefused : Status → (Refusal → Type 0) → Type 0
 IfScriptRefused (ScriptRefused refusal) P = P refusal
 IfScriptRefused status P = Unit {0}
 
--- The statuses that `solve` has so far, and those of them that a file's bytes alone lead to.
+-- The statuses that there are so far, and those of them that a file's bytes alone lead to.
 abbrev pub ComesFromBytes : Status → Type 0
 ComesFromBytes Sat = Unit {0}
 ComesFromBytes Unsat = Unit {0}
+ComesFromBytes Done = Unit {0}
 ComesFromBytes (ScriptRefused refusal) = Unit {0}
 ComesFromBytes WriteFault = Unit {0}
 ComesFromBytes Memory = Unit {0}
@@ -134,31 +144,65 @@ SolvesFront files file from to before now = (status : Status) × Solves files fi
 abbrev pub AnswersFront : List (List ℕ) → Files → ℕ → ℕ → Option (List ℕ) → Option (List ℕ) → Type 0
 AnswersFront words files from to before now = (status : Status) × Answers words files from to status (TookFront before now)
 
--- The file that the words ask to be solved is told, and has such bytes.
-abbrev pub OfTold : List (List ℕ) → Files → (List ℕ → Type 0) → Type 0
-OfTold words files Such = (file : List ℕ) × (asked_for words ≡ Some (Solve None file)) × Tells files file Such
+-- The file has an answer of `print` with this status, and its text was taken as said.
+abbrev pub Prints : Files → List ℕ → Status → (List ℕ → Type 0) → Type 0
+Prints files file status Taken = (bytes : List ℕ) × Has files file bytes × (text : List ℕ) × IsPrinted bytes status text × Taken text
 
--- The file that the words ask to be solved has such bytes, where that is told.
-abbrev pub Of : List (List ℕ) → Files → (List ℕ → Type 0) → Type 0
-Of words files Such = (file bytes : List ℕ) × (asked_for words ≡ Some (Solve None file)) × Has files file bytes × Such bytes
+-- The file has an answer of `print` with some status, of which a proper front was taken.
+abbrev pub PrintsFront : Files → List ℕ → Option (List ℕ) → Option (List ℕ) → Type 0
+PrintsFront files file before now = (status : Status) × Prints files file status (TookFront before now)
+
+-- A fact of the first of a command's files, which is its script.
+abbrev pub OfFirst : List (List ℕ) → (List ℕ → Type 0) → Type 0
+OfFirst [] Such = ⊥
+OfFirst (file ∷ files) Such = Such file
+
+-- The script that the words give to their command is told, and has such bytes.
+abbrev pub OfTold : List (List ℕ) → Files → (List ℕ → Type 0) → Type 0
+OfTold words files Such =
+    (command : Command) × (asked_for words ≡ Some command) × OfFirst (files_of command) (λ file. Tells files file Such)
+
+-- The script that the words give to their command has such bytes, where that is told.
+abbrev pub Of : List (List ℕ) → Files → (Command → List ℕ → Type 0) → Type 0
+Of words files Such =
+    (command : Command) × (asked_for words ≡ Some command)
+    × OfFirst (files_of command) (λ file. (bytes : List ℕ) × Has files file bytes × Such command bytes)
 
 -- The shelf tells that the file has such bytes.
 abbrev pub GivesFile : Files → List ℕ → (List ℕ → Type 0) → Type 0
 GivesFile None name Such = ⊥
 GivesFile (Some file) name Such = (bytes : List ℕ) × (file name ≡ Some bytes) × Such bytes
 
--- The shelf tells that the file of the words has such bytes, and no more than a file may have; or more.
-abbrev pub Gives : List (List ℕ) → Files → (List ℕ → Type 0) → Type 0
+-- The shelf tells that the script of the words' command has such bytes, and no more than a file may have; or more.
+abbrev pub Gives : List (List ℕ) → Files → (Command → List ℕ → Type 0) → Type 0
 Gives words files Such =
-    (file : List ℕ) × (asked_for words ≡ Some (Solve None file)) × GivesFile files file (λ bytes. (length bytes ≤ file_limit) × Such bytes)
+    (command : Command) × (asked_for words ≡ Some command)
+    × OfFirst (files_of command) (λ file. GivesFile files file (λ bytes. (length bytes ≤ file_limit) × Such command bytes))
 
 abbrev pub GivesLong : List (List ℕ) → Files → Type 0
 GivesLong words files =
-    (file : List ℕ) × (asked_for words ≡ Some (Solve None file)) × GivesFile files file (λ bytes. file_limit < length bytes)
+    (command : Command) × (asked_for words ≡ Some command)
+    × OfFirst (files_of command) (λ file. GivesFile files file (λ bytes. file_limit < length bytes))
 
--- The bytes have a meaning.
+-- The bytes mean a script that `solve` takes; and a script that `print` takes.
 abbrev pub IsMeant : List ℕ → Type 0
 IsMeant bytes = (script : Script) × Means bytes script
+
+abbrev pub IsPrintable : List ℕ → Type 0
+IsPrintable bytes = (script : Script) × smtlib.Means bytes script
+
+-- The bytes mean a script that the command takes.
+abbrev pub IsTaken : Command → List ℕ → Type 0
+IsTaken (Solve None file) bytes = IsMeant bytes
+IsTaken (Print file) bytes = IsPrintable bytes
+IsTaken command bytes = ⊥
+
+-- The bytes are refused as the script of the command: `solve` refuses each file outside the first profile at its start, and
+-- `print` refuses at the first fault.
+abbrev pub IsRefusedAs : Refusal → Command → List ℕ → Type 0
+IsRefusedAs refusal (Solve None file) bytes = first_profile.Refused bytes refusal
+IsRefusedAs refusal (Print file) bytes = smtlib.Refused bytes refusal
+IsRefusedAs refusal command bytes = ⊥
 
 -- The names of the words' files.
 abbrev pub names_of : Option Command → List (List ℕ)
@@ -173,16 +217,21 @@ AsksOne before now name = (now ≡ before) ⊎ (now ≡ with_more before (name �
 abbrev pub AskedFront : Option (List (List ℕ)) → Option (List (List ℕ)) → List (List ℕ) → Type 0
 AskedFront before now names = (n : ℕ) × (n ≤ length names) × (now ≡ with_more before (take n names))
 
--- How the counter rises where there is no answer: not at all, or by the decisions that were made before memory ran out. How it rises
--- with an answer is said of the answer.
-abbrev pub Counts : Status → ℕ → ℕ → Type 0
-Counts Sat before now = before ≤ now
-Counts Unsat before now = before ≤ now
-Counts WriteFault before now = before ≤ now
-Counts Memory before now = before ≤ now
-Counts status before now = now ≡ before
+-- How the counter rises in `solve` where there is no answer: not at all, or by the decisions that were made before memory ran
+-- out. How it rises with an answer is said of the answer.
+abbrev pub CountsSolving : Status → ℕ → ℕ → Type 0
+CountsSolving Sat before now = before ≤ now
+CountsSolving Unsat before now = before ≤ now
+CountsSolving WriteFault before now = before ≤ now
+CountsSolving Memory before now = before ≤ now
+CountsSolving status before now = now ≡ before
 
--- The same for a text that is still to be written.
+-- In no other command does it rise.
+abbrev pub Counts : Option Command → Status → ℕ → ℕ → Type 0
+Counts (Some (Solve depth file)) status before now = CountsSolving status before now
+Counts command status before now = now ≡ before
+
+-- The same for a text of `solve` that is still to be written.
 abbrev pub CountsReading : {T : Type 0} → Result T ReadError → ℕ → ℕ → Type 0
 CountsReading (Ok text) before now = before ≤ now
 CountsReading (Err error.Memory) before now = before ≤ now
@@ -199,6 +248,14 @@ IsWritten status = ((status ≡ Sat) ⊎ (status ≡ Unsat)) ⊎ ((status ≡ Me
 -- The same, or the file couldn't be read.
 abbrev pub IsDecided : Status → Type 0
 IsDecided status = IsWritten status ⊎ (status ≡ ReadFault)
+
+-- The script was printed, or memory ran out, or the text couldn't be written.
+abbrev pub IsDone : Status → Type 0
+IsDone status = (status ≡ Done) ⊎ ((status ≡ Memory) ⊎ (status ≡ WriteFault))
+
+-- There is an answer, or memory ran out, or the answer couldn't be written, or the file couldn't be read.
+abbrev pub IsFinished : Status → Type 0
+IsFinished status = (is_answered status ≡ true) ⊎ (((status ≡ Memory) ⊎ (status ≡ WriteFault)) ⊎ (status ≡ ReadFault))
 
 -- The text of an outcome, and its status.
 abbrev pub outcome_text : Script → Outcome → List ℕ

@@ -63,9 +63,9 @@ abbrev pub of_one_file : List ℕ → List ℕ → Option Command
 of_one_file name file =
     if not (is_file file) then None
     else (if bytes_eq name (codes "solve") then Some (Solve None file)
+    else (if bytes_eq name (codes "print") then Some (Print file)
     else (if bytes_eq name (codes "fragment") then Some (Fragment file)
-    else (if bytes_eq name (codes "trace") then Some (Trace file)
-    else (if bytes_eq name (codes "print") then Some (Print file) else None))))
+    else (if bytes_eq name (codes "trace") then Some (Trace file) else None))))
 
 -- `replay SCRIPT REFUTATION`, `check-model SCRIPT MODEL`, `make KIND N` and `trial KIND N`.
 abbrev pub of_two_words : List ℕ → List ℕ → List ℕ → Option Command
@@ -100,6 +100,7 @@ command_of words = None
 -- The commands that the program has so far.
 abbrev pub is_built : Command → Bool
 is_built (Solve None file) = true
+is_built (Print file) = true
 is_built command = false
 
 -- A command that the program has.

@@ -1,4 +1,5 @@
 pub mod Answer
 pub mod Command
 pub mod ModelText
+pub mod Task
 pub mod Told

@@ -5,12 +5,12 @@ ghost use Rattle.mbqi_edge.specs.Faults.{Rose};
 ghost use Rattle.mbqi_edge.specs.Files.{Tells};
 ghost use Rattle.mbqi_edge.specs.Told.{with_more};
 ghost use Rattle.mbqi_app.specs.Command.{asked_for};
-ghost use Rattle.mbqi_app.specs.Answer.{Answers, AnswersFront, AskedFront, Counts, IfScriptRefused, Of, OfTold, IsOneOfAll, TookAll, file_limit, is_answered, is_silent, names_of, Gives, GivesLong, IsMeant, IsOneOf, IsDecided};
-ghost use Rattle.first_profile.specs.Means.{Refused, IsOutside};
-ghost use Rattle.first_profile.specs.Reads.{outside};
+ghost use Rattle.mbqi_values.specs.declared.fault.Refusal.{Refusal};
+ghost use Rattle.mbqi_app.specs.Answer.{Answers, AnswersFront, AskedFront, Counts, IfScriptRefused, Of, OfTold, IsOneOfAll, TookAll, file_limit, is_answered, is_silent, names_of, Gives, GivesLong, IsTaken, IsRefusedAs, IsOneOf, IsFinished};
 ghost use Rattle.mbqi_app.specs.Told.{told_of, TookPart};
 
-use crate::command::file_of;
+use crate::command::{Task, task_of};
+use crate::print::print;
 use crate::solve::solve;
 use crate::tell::tell;
 use mbqi_edge::{Shelf, Sink};
@@ -37,7 +37,7 @@ pub fn run<F: Shelf, W: Sink, E: Sink, L: Ledger>(
     ensures too_long { result ≡ Status.TooLong
         → OfTold (map string_bytes words.now) (F.files shelf.old) (λ bytes. file_limit < length bytes) }
     ensures refused { IfScriptRefused result (λ refusal.
-        Of (map string_bytes words.now) (F.files shelf.old) (λ bytes. Refused bytes refusal)) }
+        Of (map string_bytes words.now) (F.files shelf.old) (IsRefusedAs refusal)) }
     ensures comes { IsOneOfAll result }
 
     // What an answer says, and what was written of it.
@@ -55,14 +55,14 @@ pub fn run<F: Shelf, W: Sink, E: Sink, L: Ledger>(
     ensures asked { AskedFront (F.asked shelf.old) (F.asked shelf.new) (names_of (asked_for (map string_bytes words.now))) }
     ensures all_asked { IsTrue (is_answered result)
         → F.asked shelf.new ≡ with_more (F.asked shelf.old) (names_of (asked_for (map string_bytes words.now))) }
-    ensures steps { Counts result steps.old steps.new }
+    ensures steps { Counts (asked_for (map string_bytes words.now)) result steps.old steps.new }
 
     // A file that is read without a fault has the answer that its bytes call for, or memory runs out, or the answer can't be
     // written.
-    ensures complete { Gives (map string_bytes words.now) (F.files shelf.old) IsMeant
-        → IsDecided result }
-    ensures refuses { Gives (map string_bytes words.now) (F.files shelf.old) IsOutside
-        → IsOneOf result (Status.ScriptRefused outside) }
+    ensures complete { Gives (map string_bytes words.now) (F.files shelf.old) IsTaken
+        → IsFinished result }
+    ensures refuses { (refusal : Refusal) → Gives (map string_bytes words.now) (F.files shelf.old) (IsRefusedAs refusal)
+        → IsOneOf result (Status.ScriptRefused refusal) }
     ensures long { GivesLong (map string_bytes words.now) (F.files shelf.old)
         → IsOneOf result Status.TooLong }
 {
@@ -84,7 +84,7 @@ fn carry_out<F: Shelf, W: Sink, L: Ledger>(
     ensures too_long { result ≡ Status.TooLong
         → OfTold (map string_bytes words.now) (F.files shelf.old) (λ bytes. file_limit < length bytes) }
     ensures refused { IfScriptRefused result (λ refusal.
-        Of (map string_bytes words.now) (F.files shelf.old) (λ bytes. Refused bytes refusal)) }
+        Of (map string_bytes words.now) (F.files shelf.old) (IsRefusedAs refusal)) }
     ensures comes { IsOneOfAll result }
     ensures answer { IsTrue (is_answered result) → Answers (map string_bytes words.now) (F.files shelf.old) steps.old steps.new result
         (TookAll (W.taken out.old) (W.taken out.new)) }
@@ -95,16 +95,17 @@ fn carry_out<F: Shelf, W: Sink, L: Ledger>(
     ensures asked { AskedFront (F.asked shelf.old) (F.asked shelf.new) (names_of (asked_for (map string_bytes words.now))) }
     ensures all_asked { IsTrue (is_answered result)
         → F.asked shelf.new ≡ with_more (F.asked shelf.old) (names_of (asked_for (map string_bytes words.now))) }
-    ensures steps { Counts result steps.old steps.new }
-    ensures complete { Gives (map string_bytes words.now) (F.files shelf.old) IsMeant
-        → IsDecided result }
-    ensures refuses { Gives (map string_bytes words.now) (F.files shelf.old) IsOutside
-        → IsOneOf result (Status.ScriptRefused outside) }
+    ensures steps { Counts (asked_for (map string_bytes words.now)) result steps.old steps.new }
+    ensures complete { Gives (map string_bytes words.now) (F.files shelf.old) IsTaken
+        → IsFinished result }
+    ensures refuses { (refusal : Refusal) → Gives (map string_bytes words.now) (F.files shelf.old) (IsRefusedAs refusal)
+        → IsOneOf result (Status.ScriptRefused refusal) }
     ensures long { GivesLong (map string_bytes words.now) (F.files shelf.old)
         → IsOneOf result Status.TooLong }
 {
-    match file_of(words) {
-        Some(file) => solve(alloc, file, shelf, out, steps),
+    match task_of(words) {
+        Some(Task::Solve(file)) => solve(alloc, file, shelf, out, steps),
+        Some(Task::Print(file)) => print(alloc, file, shelf, out),
         None => Status::Words,
     }
 }

@@ -5,7 +5,7 @@ ghost use Rattle.sexpr_text.specs.Forms.{IfRefused};
 ghost use Rattle.mbqi_edge.specs.Faults.{Rose};
 ghost use Rattle.mbqi_edge.specs.Files.{Has, Tells};
 ghost use Rattle.mbqi_edge.specs.Told.{with_more};
-ghost use Rattle.mbqi_app.specs.Answer.{IsSolution, is_answered, is_silent, file_limit, IfScriptRefused, Counts, Solves, SolvesFront, TookAll, TookFront, AsksOne, CountsReading, Comes, ComesFromBytes, GivesFile, IsMeant, IsOneOf, IsWritten, IsDecided, outcome_text, status_of};
+ghost use Rattle.mbqi_app.specs.Answer.{IsSolution, is_answered, is_silent, file_limit, IfScriptRefused, CountsSolving, Solves, SolvesFront, TookAll, TookFront, AsksOne, CountsReading, Comes, ComesFromBytes, GivesFile, IsMeant, IsOneOf, IsWritten, IsDecided, outcome_text, status_of};
 ghost use Rattle.first_profile.specs.Means.{Refused, IsOutside};
 ghost use Rattle.first_profile.specs.Reads.{outside};
 
@@ -43,7 +43,7 @@ pub fn solve<F: Shelf, W: Sink, L: Ledger>(
     ensures files { F.files shelf.new ≡ F.files shelf.old }
     ensures asked { AsksOne (F.asked shelf.old) (F.asked shelf.new) file.now }
     ensures all_asked { IsTrue (is_answered result) → F.asked shelf.new ≡ with_more (F.asked shelf.old) (file.now ∷ []) }
-    ensures steps { Counts result steps.old steps.new }
+    ensures steps { CountsSolving result steps.old steps.new }
 
     ensures complete { GivesFile (F.files shelf.old) file.now (λ bytes. (length bytes ≤ file_limit) × IsMeant bytes)
         → IsDecided result }
@@ -76,7 +76,7 @@ fn write_answer<W: Sink, L: Ledger>(
         × TookFront (W.taken out.old) (W.taken out.new) text) }
     ensures silent { IsTrue (is_silent result) → W.taken out.new ≡ W.taken out.old }
     ensures comes { ComesFromBytes result }
-    ensures steps { Counts result steps.old steps.new }
+    ensures steps { CountsSolving result steps.old steps.new }
     ensures complete { IsMeant bytes.now → IsWritten result }
     ensures refuses { IsOutside bytes.now → (result ≡ Status.ScriptRefused outside) ⊎ (result ≡ Status.Memory) }
 {

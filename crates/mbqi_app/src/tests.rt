@@ -24,6 +24,8 @@ const FILE: &str = "script";
 
 const SOLVE: &str = "solve script";
 
+const PRINT: &str = "print script";
+
 /// Room for each text of these tests.
 const AMPLE: usize = 4000;
 
@@ -307,6 +309,65 @@ fn reserved_words_are_no_names(rt: HostRuntime) -> Result<(), Fail> {
         let script = format!(in alloc; "(declare-sort {word} 0)")?;
         assert!(rt; is_outside(alloc, script.as_str())?, "{word}");
     }
+    Ok(())
+}
+
+/// A script with a macro and a `let`, and its text.
+const DEFINED: &str = "(declare-fun f (Int) Int)
+(define-fun g ((x Int)) Bool (< (f x) 3))
+(assert (forall ((y Int)) (let ((z (- y 1))) (g z))))
+(check-sat)";
+
+const DEFINED_TEXT: &str = "(declare-fun f (Int) Int)
+(assert (forall ((?0 Int)) (not (<= 3 (f (+ ?0 (- 1)))))))
+(check-sat)
+";
+
+/// What lies outside the first profile is printed all the same, and a text is its own text.
+const PRINTED: [(&str, &str); 4] = [
+    ("", ""),
+    (DEFINED, DEFINED_TEXT),
+    (DEFINED_TEXT, DEFINED_TEXT),
+    (
+        "(assert (distinct 1 2 3))",
+        "(assert (and (not (= 1 2)) (not (= 1 3)) (not (= 2 3))))\n",
+    ),
+];
+
+#[test]
+fn scripts_are_printed(rt: HostRuntime) -> Result<(), Fail> {
+    let alloc = rt.alloc();
+    for (script, text) in PRINTED {
+        let call = call_run(alloc, PRINT, shelf_of(alloc, script, &[])?, AMPLE)?;
+        assert_ended(&rt, &call, Status::Done, text, "");
+    }
+    Ok(())
+}
+
+// The second form is the first without a meaning, and begins at its place.
+#[test]
+fn scripts_are_refused_at_their_place(rt: HostRuntime) -> Result<(), Fail> {
+    let alloc = rt.alloc();
+    let refusal = Refusal {
+        at: 32,
+        kind: FaultKind::UnknownName,
+    };
+    let shelf = shelf_of(alloc, "(declare-sort S 0)\n; (assert p)\n(assert q)", &[])?;
+    let call = call_run(alloc, PRINT, shelf, AMPLE)?;
+    let told = "mbqi: refused at 32: UnknownName\n";
+    assert_ended(&rt, &call, Status::ScriptRefused(refusal), "", told);
+    Ok(())
+}
+
+#[test]
+fn printing_has_its_faults(rt: HostRuntime) -> Result<(), Fail> {
+    let alloc = rt.alloc();
+    let unwritten = "mbqi: the answer cannot be written\n";
+    let unread = "mbqi: the file cannot be read\n";
+    let full = call_run(alloc, PRINT, shelf_of(alloc, DEFINED, &[])?, 10)?;
+    assert_ended(&rt, &full, Status::WriteFault, "(declare-f", unwritten);
+    let failing = call_run(alloc, PRINT, shelf_of(alloc, DEFINED, &[0])?, AMPLE)?;
+    assert_ended(&rt, &failing, Status::ReadFault, "", unread);
     Ok(())
 }
 

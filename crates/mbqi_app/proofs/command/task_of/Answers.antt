@@ -1,7 +1,7 @@
 use Rattle.std.proofs.Common.{◌≡◌, length, map, string_bytes, arith}
 use Rattle.std.proofs.lemmas.List.{length-map}
 use Rattle.mbqi_app.proofs.CommandForms.{only_two}
-use Rattle.mbqi_app.proofs.command.file_of.Goals as goal
+use Rattle.mbqi_app.proofs.command.task_of.Goals as goal
 
 -- fewer or more than two words are no command that is built
 pub returns-else-words-eq2 : goal.returns-else-words-eq2
