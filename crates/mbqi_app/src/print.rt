@@ -61,7 +61,7 @@ fn write_printed<W: Sink>(alloc: Global, bytes: &[u8], out: &mut W) -> Status
     ensures answer { IsTrue (is_answered result)
         → (text : List ℕ) × IsPrinted bytes.now result text × TookAll (W.taken out.old) (W.taken out.new) text }
     ensures write_fault { result ≡ Status.WriteFault → Rose (W.faults out.old) (W.faults out.new)
-        × ((text : List ℕ) × IsPrinted bytes.now Status.Done text × TookFront (W.taken out.old) (W.taken out.new) text) }
+        × ((status : Status) × (text : List ℕ) × IsPrinted bytes.now status text × TookFront (W.taken out.old) (W.taken out.new) text) }
     ensures silent { IsTrue (is_silent result) → W.taken out.new ≡ W.taken out.old }
     ensures comes { ComesFromBytes result }
     ensures complete { IsPrintable bytes.now → IsDone result }
