@@ -18,12 +18,7 @@ use smtlib_decls::{one_script_or_refusal, read_text};
 use std::alloc::Global;
 
 /// Fetches the file, and writes the canonical text of its script when it is whole.
-pub fn print<F: Shelf, W: Sink>(
-    alloc: Global,
-    file: &str,
-    shelf: &mut F,
-    out: &mut W,
-) -> Status
+pub fn print<F: Shelf, W: Sink>(alloc: Global, file: &str, shelf: &mut F, out: &mut W) -> Status
     ensures read_fault { result ≡ Status.ReadFault → Rose (F.faults shelf.old) (F.faults shelf.new) }
     ensures too_long { result ≡ Status.TooLong → Tells (F.files shelf.old) file.now (λ bytes. file_limit < length bytes) }
     ensures refused { IfScriptRefused result (λ refusal. (bytes : List ℕ) × Has (F.files shelf.old) file.now bytes × Refused bytes refusal) }
