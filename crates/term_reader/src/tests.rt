@@ -195,20 +195,28 @@ fn negated(alloc: Global, times: usize, inner: &str) -> Result<String, AllocErro
     Ok(text)
 }
 
-/// `(let ((u I)) O)` with I of depth 601, and O of so many `not` around u.
+/// Nine `let` one in the other, of which each binds u to what it was under a hundred `not`, round u under so many `not`.
 fn deep(alloc: Global, times: usize) -> Result<String, AllocError> {
-    let inner = negated(alloc, 600, "p")?;
-    let outer = negated(alloc, times, "u")?;
-    format!(in alloc; "(let ((u {inner})) {outer})")
+    let hundred = negated(alloc, 100, "u")?;
+    let mut text = format!(in alloc; "(let ((u p)) ")?;
+    for _let in 0..9 {
+        text.push_str("(let ((u ")?;
+        text.push_str(&hundred)?;
+        text.push_str(")) ")?;
+    }
+    let body = negated(alloc, times, "u")?;
+    text.push_str(&body)?;
+    text.push_str("))))))))))")?;
+    Ok(text)
 }
 
 #[test]
 fn expanded_terms_have_a_greatest_depth(rt: HostRuntime) -> Result<(), Fail> {
     let alloc = rt.alloc();
     let names = defined(alloc, "")?;
-    let text = deep(alloc, 399)?;
+    let text = deep(alloc, 99)?;
     assert!(rt; meaning(alloc, &names, &text).is_ok());
-    for times in [400, 500, 600] {
+    for times in [100, 150, 200] {
         let text = deep(alloc, times)?;
         assert!(rt; is_refused(alloc, &names, &text, FaultKind::TooDeep));
     }
