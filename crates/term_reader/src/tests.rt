@@ -182,42 +182,25 @@ fn terms_are_refused_for_their_first_fault(rt: HostRuntime) -> Result<(), Fail> 
     Ok(())
 }
 
-/// A text under so many `not`.
-fn negated(alloc: Global, times: usize, inner: &str) -> Result<String, AllocError> {
+/// `(=> p ... p)` with so many arguments, which is one deeper than it has arguments.
+fn chain(alloc: Global, count: usize) -> Result<String, AllocError> {
     let mut text = String::new(alloc);
-    for _time in 0..times {
-        text.push_str("(not ")?;
+    text.push_str("(=>")?;
+    for _argument in 0..count {
+        text.push_str(" p")?;
     }
-    text.push_str(inner)?;
-    for _time in 0..times {
-        text.push(')')?;
-    }
-    Ok(text)
-}
-
-/// Nine `let` one in the other, of which each binds u to what it was under a hundred `not`, round u under so many `not`.
-fn deep(alloc: Global, times: usize) -> Result<String, AllocError> {
-    let hundred = negated(alloc, 100, "u")?;
-    let mut text = format!(in alloc; "(let ((u p)) ")?;
-    for _let in 0..9 {
-        text.push_str("(let ((u ")?;
-        text.push_str(&hundred)?;
-        text.push_str(")) ")?;
-    }
-    let body = negated(alloc, times, "u")?;
-    text.push_str(&body)?;
-    text.push_str("))))))))))")?;
+    text.push(')')?;
     Ok(text)
 }
 
 #[test]
-fn expanded_terms_have_a_greatest_depth(rt: HostRuntime) -> Result<(), Fail> {
+fn terms_have_a_greatest_depth(rt: HostRuntime) -> Result<(), Fail> {
     let alloc = rt.alloc();
     let names = defined(alloc, "")?;
-    let text = deep(alloc, 99)?;
+    let text = chain(alloc, 999)?;
     assert!(rt; meaning(alloc, &names, &text).is_ok());
-    for times in [100, 150, 200] {
-        let text = deep(alloc, times)?;
+    for count in [1000, 1001, 1200] {
+        let text = chain(alloc, count)?;
         assert!(rt; is_refused(alloc, &names, &text, FaultKind::TooDeep));
     }
     Ok(())
