@@ -10,6 +10,7 @@ use Rattle.smtlib_terms.specs.Declaring.{Declarations, formula_read, function_de
 use Rattle.smtlib_terms.specs.Names.{◌>>=◌}
 use Rattle.smtlib_terms.specs.Reading.{is_list, is_some_symbol, text_of, trees_in}
 use Rattle.smtlib_terms.specs.Words.{is_one_of, is_text}
+use Rattle.term_reader.specs.Defining.{definition_parts}
 use Rattle.smtlib_decls.specs.declared.command.Command.{Command}
 use Rattle.smtlib_decls.specs.declared.command.Command.TheVariants as command
 use Rattle.smtlib_decls.specs.declared.progress.Progress.{Progress}
@@ -105,9 +106,13 @@ signature_command p (name ∷ args ∷ result ∷ []) =
     else Err BadForm
 signature_command p parts = Err BadForm
 
--- `(define-fun f ((x S) ...) S t)`: a macro, which is no part of the script.
+-- `(define-fun f ((x S) ...) S t)`: a macro, which is no part of the script. Behind the question, what stands in it is
+-- judged and nothing else.
+unfoldable pub definition_behind : Progress → Sexpr → Result Progress FaultKind
+definition_behind p t = definition_parts p.names t >>= (λ u. Err Unsupported)
+
 abbrev pub definition_command : Progress → Sexpr → Result Progress FaultKind
-definition_command p t = macro_defined p.names t >>= (λ names. unless_asked p (Ok (with_names p names)))
+definition_command p t = if p.asks then definition_behind p t else renamed p (macro_defined p.names t)
 
 abbrev pub with_assertion : Progress → Option (List ℕ) → Formula → Progress
 with_assertion p label f =

@@ -1,9 +1,9 @@
 //! Declarations and definitions.
 
 ghost use Rattle.std.specs.Prelude.{◌≡◌, []};
-ghost use Rattle.smtlib_terms.specs.Answers.{Answers};
+ghost use Rattle.smtlib_terms.specs.Answers.{Answers, IsFault};
 ghost use Rattle.smtlib_terms.specs.Reading.{is_list};
-ghost use Rattle.smtlib_decls.specs.Commands.{constant_command, constant_declared, definition_command, function_command, is_numeral, is_zero, signature_command, signature_declared, sort_command, sorts_read};
+ghost use Rattle.smtlib_decls.specs.Commands.{constant_command, constant_declared, definition_behind, definition_command, function_command, is_numeral, is_zero, signature_command, signature_declared, sort_command, sorts_read};
 ghost use Rattle.smtlib_decls.specs.Takes.{Takes};
 
 use crate::progress::Progress;
@@ -15,7 +15,7 @@ use smtlib_terms::declaring::read_sort;
 use smtlib_terms::names::Names;
 use smtlib_terms::sorts::refused;
 use std::alloc::Global;
-use term_reader::define_macro;
+use term_reader::{check_definition, define_macro};
 
 /// Whether a tree is a numeral.
 fn is_numeral(tree: &Sexpr) -> bool
@@ -177,6 +177,17 @@ pub fn take_signature(
     declare_function(alloc, progress, text_of(name), trees_in(args), result_sort)
 }
 
+/// A definition behind the question. What stands in it may have a fault; else it is Unsupported.
+#[tactic(auto, unfolding(crate::specs::Commands::definition_behind))]
+fn definition_fault(alloc: Global, progress: &Progress, tree: &Sexpr) -> ReadError
+    ensures { IsFault result (definition_behind progress.now tree.now) }
+{
+    match check_definition(alloc, &progress.names, tree) {
+        Ok(()) => refused(FaultKind::Unsupported),
+        Err(error) => error,
+    }
+}
+
 /// Takes `(define-fun f ((x S) ...) S t)`.
 pub fn take_definition(
     alloc: Global,
@@ -185,9 +196,8 @@ pub fn take_definition(
 ) -> Result<(), ReadError>
     ensures { Takes result progress.new (definition_command progress.old tree.now) }
 {
-    define_macro(alloc, &mut progress.names, tree)?;
     if progress.asks {
-        return Err(refused(FaultKind::Unsupported));
+        return Err(definition_fault(alloc, progress, tree));
     }
-    Ok(())
+    define_macro(alloc, &mut progress.names, tree)
 }

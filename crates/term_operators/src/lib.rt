@@ -17,8 +17,6 @@ mod queue;
 mod relations;
 mod sorts;
 mod sums;
-#[cfg(test)]
-mod tests;
 
 pub use applications::{application, function_applied, function_named, have_sorts};
 pub use arguments::Meanings;

@@ -1,5 +1,5 @@
 -- Arguments and bindings as the definition reads them, one in turn.
-use Rattle.std.proofs.Common.{◌≡◌, ℕ, ◌+◌, Bool, true, false, List, [], ◌∷◌, ◌++◌, map, Result, Ok, Err, refl, ap, sym, ◌∙◌, append_assoc, append-nil, arith, subst, if◌then◌else◌}
+use Rattle.std.proofs.Common.{◌≡◌, ℕ, ◌+◌, Bool, true, false, List, [], ◌∷◌, ◌++◌, map, Option, None, Some, Result, Ok, Err, refl, ap, sym, ◌∙◌, append_assoc, append-nil, arith, subst, if◌then◌else◌}
 use Rattle.mbqi_values.specs.declared.fault.FaultKind.{FaultKind}
 use Rattle.mbqi_values.specs.declared.fault.ReadError.{ReadError}
 use Rattle.mbqi_values.specs.declared.fault.ReadError.TheVariants.{Refused, Memory}
@@ -10,10 +10,12 @@ use Rattle.smtlib_terms.specs.declared.names.Binding.{Binding}
 use Rattle.smtlib_terms.specs.Answers.{IsFault}
 use Rattle.smtlib_terms.specs.Meaning.{variables_of}
 use Rattle.smtlib_terms.specs.Names.{◌>>=◌, Signature}
-use Rattle.smtlib_terms.specs.Operators.{plainly}
-use Rattle.smtlib_terms.specs.Reading.{Part, Reading, bindable, binder_name, bindings_read, inner, parts_read, readings, side, trees_in, value_read, values_read}
+use Rattle.smtlib_terms.specs.declared.meaning.Side.{Side}
+use Rattle.smtlib_terms.specs.declared.meaning.Side.TheVariants.{Meant, Difference}
+use Rattle.smtlib_terms.specs.Operators.{plainly, two_sides}
+use Rattle.smtlib_terms.specs.Reading.{Part, Reading, bindable, binder_name, bindings_read, inner, part_of, parts_read, readings, side, sides_read, trees_in, value_read, values_read}
 use Rattle.smtlib_terms.specs.Steps.{behind}
-use Rattle.term_reader.specs.Plans.{arguments_behind, arguments_read, binding_among, bindings_among, bindings_behind}
+use Rattle.term_reader.specs.Plans.{arguments_behind, arguments_read, binding_among, bindings_among, bindings_behind, is_difference, operator_read, second_side, two_of}
 use Rattle.term_reader.proofs.Bindings.{inner_trees, readings_trees}
 
 -- one more item was read
@@ -24,7 +26,6 @@ behind_next before x (Err kind) = refl
 behind_nothing : {A : Type 0} (rest : Result (List A) FaultKind) → behind [] rest ≡ rest
 behind_nothing (Ok xs) = refl
 behind_nothing (Err kind) = refl
-
 
 same_behind : {A : Type 0} (first : Result A FaultKind) (rest other : A → Result (List A) FaultKind) → ((a : A) → rest a ≡ other a)
     → first >>= (λ a. rest a >>= (λ items. Ok (a ∷ items))) ≡ first >>= (λ a. other a >>= (λ items. Ok (a ∷ items)))
@@ -44,6 +45,33 @@ behind_faulty : {A : Type 0} (error : ReadError) (before : List A) (first : Resu
     → IsFault error (behind before (first >>= (λ a. rest a >>= (λ items. Ok (a ∷ items)))))
 behind_faulty (Refused refusal) before first rest fault = (behind_fault before first rest refusal.kind fault.0, fault.1)
 behind_faulty Memory before first rest fault = tt
+
+-- the sides of an atom
+pub second_is : (left : Side) (right : Result Side FaultKind) → two_sides left right ≡ second_side (is_difference left) right >>= (λ (s : Side). two_sides left (Ok s))
+second_is (Meant m) (Ok s) = refl
+second_is (Meant m) (Err kind) = refl
+second_is (Difference s t) (Ok u) = refl
+second_is (Difference s t) (Err kind) = refl
+
+pub two_sides_read : (paired : Bool) (ts : List Sexpr) (a b : Sexpr) (names : Signature) (scope : List Binding) (next : ℕ) → two_of paired ts ≡ Some (a, b)
+    → operator_read paired (map part_of ts) names scope next ≡ sides_read (part_of a) (part_of b) names scope next
+two_sides_read true [] a b names scope next is = cc
+two_sides_read true (c ∷ []) a b names scope next is = cc
+two_sides_read true (c ∷ d ∷ []) a b names scope next is =
+    let same : (c, d) ≡ (a, b) = cc in
+    ap (λ (two : Sexpr × Sexpr). sides_read (part_of two.0) (part_of two.1) names scope next) same
+two_sides_read true (c ∷ d ∷ e ∷ ts) a b names scope next is = cc
+two_sides_read false ts a b names scope next is = cc
+
+pub no_sides_read : (paired : Bool) (ts : List Sexpr) (names : Signature) (scope : List Binding) (next : ℕ) → two_of paired ts ≡ None
+    → operator_read paired (map part_of ts) names scope next ≡ parts_read (map part_of ts) names scope next
+no_sides_read true [] names scope next is = refl
+no_sides_read true (c ∷ []) names scope next is = refl
+no_sides_read true (c ∷ d ∷ []) names scope next is = cc
+no_sides_read true (c ∷ d ∷ e ∷ ts) names scope next is = refl
+no_sides_read false ts names scope next is = refl
+
+pub ruleset operand_laws = (two_sides_read, no_sides_read)
 
 -- arguments
 behind_none : (next : ℕ) → next ≡ next + 0

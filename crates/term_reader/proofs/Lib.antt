@@ -4,3 +4,4 @@ mod Definitions
 mod Ends
 mod Numerals
 mod PlanLaws
+mod ReadingLaws

@@ -35,7 +35,7 @@ Planned text ts names scope next r = r >>= (λ (p : plan_type.Plan). planned p t
 -- `let` where its bindings have their shape, and where they don't
 shaped : (b : Bool) (p : plan_type.Plan) (text : List ℕ) (ts : List Sexpr) (names : Signature) (scope : List Binding) (next : ℕ) (r : Result Meaning FaultKind)
     → meant r ≡ planned p text (map part_of ts) names scope next
-    → meant (elim b [ | true ↦ r | false ↦ Err BadForm ]) ≡ Planned text ts names scope next (if b then Ok p else Err BadForm)
+    → meant (elim b [ true ↦ r | false ↦ Err BadForm ]) ≡ Planned text ts names scope next (if b then Ok p else Err BadForm)
 shaped true p text ts names scope next r same = same
 shaped false p text ts names scope next r same = refl
 

@@ -1,10 +1,11 @@
 -- How a list is read behind its head. No public clause cites it.
 use Rattle.std.specs.Prelude.{ℕ, ◌+◌, ◌≡◌, Bool, true, false, ◌&&◌, List, [], ◌∷◌, ◌++◌, length, map, codes, Option, None, Some, Result, Ok, Err, if◌then◌else◌}
 use Rattle.mbqi_values.specs.declared.fault.FaultKind.{FaultKind}
-use Rattle.mbqi_values.specs.declared.fault.FaultKind.TheVariants.{BadForm, Unsupported, WrongCount}
+use Rattle.mbqi_values.specs.declared.fault.FaultKind.TheVariants.{BadForm, NotDifference, Unsupported, WrongCount}
 use Rattle.sexpr_text.specs.declared.tree.Sexpr.{Sexpr}
 use Rattle.smtlib_terms.specs.declared.meaning.Meaning.{Meaning}
 use Rattle.smtlib_terms.specs.declared.meaning.Side.{Side}
+use Rattle.smtlib_terms.specs.declared.meaning.Side.TheVariants.{Meant, Difference}
 use Rattle.smtlib_terms.specs.declared.names.Binding.{Binding}
 use Rattle.smtlib_terms.specs.declared.names.Variable.{Variable}
 use Rattle.smtlib_terms.specs.declared.word.Word.{Word}
@@ -36,10 +37,27 @@ is_paired other = false
 abbrev pub arguments_read : Bool → List Part → Signature → List Binding → ℕ → Result (List Meaning) FaultKind
 arguments_read counted ps names scope next = if counted then parts_read ps names scope next else values_read ps names scope next
 
+-- The two items of a list that are paired.
+abbrev pub two_of : {A : Type 0} → Bool → List A → Option (A × A)
+two_of true (a ∷ b ∷ []) = Some (a, b)
+two_of paired items = None
+
+abbrev pub sides_or_parts : Option (Part × Part) → List Part → Signature → List Binding → ℕ → Result (List Meaning) FaultKind
+sides_or_parts (Some two) ps names scope next = sides_read two.0 two.1 names scope next
+sides_or_parts None ps names scope next = parts_read ps names scope next
+
+-- The arguments of an operator: those that are paired are the sides of an atom.
 abbrev pub operator_read : Bool → List Part → Signature → List Binding → ℕ → Result (List Meaning) FaultKind
-operator_read paired (a ∷ b ∷ []) names scope next =
-    if paired then sides_read a b names scope next else parts_read (a ∷ b ∷ []) names scope next
-operator_read paired ps names scope next = parts_read ps names scope next
+operator_read paired ps names scope next = sides_or_parts (two_of paired ps) ps names scope next
+
+-- The second side of an atom: a difference before it is at fault first.
+abbrev pub is_difference : Side → Bool
+is_difference (Meant m) = false
+is_difference (Difference s t) = true
+
+abbrev pub second_side : Bool → Result Side FaultKind → Result Side FaultKind
+second_side behind_difference (Ok s) = Ok s
+second_side behind_difference (Err kind) = Err (if behind_difference then NotDifference else kind)
 
 -- `true` and `false`.
 abbrev pub truth_named : List ℕ → Option Bool

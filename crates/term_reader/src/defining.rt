@@ -24,11 +24,7 @@ use term_operators::{MeasuredMeaning, is_sort};
 const LEVELS: usize = usize::MAX;
 
 /// What a tree means where nothing is bound.
-fn closed_meaning(
-    alloc: Global,
-    names: &Names,
-    tree: &Sexpr,
-) -> Result<MeasuredMeaning, ReadError>
+fn closed_meaning(alloc: Global, names: &Names, tree: &Sexpr) -> Result<MeasuredMeaning, ReadError>
     ensures { Means meaning_of result (meant_by tree.now (names_of names.now) [] 0) }
 {
     let mut scope = Scope::new(alloc);
@@ -61,7 +57,15 @@ fn body_meaning(
     let mut scope = Scope::new(alloc);
     scope.enter(arguments(alloc, bound, args, 0)?)?;
     let macros = names.macros.as_slice();
-    read_meaning(alloc, names, macros, &mut scope, &definition.body, 0, LEVELS)
+    read_meaning(
+        alloc,
+        names,
+        macros,
+        &mut scope,
+        &definition.body,
+        0,
+        LEVELS,
+    )
 }
 
 /// Whether the name and the sort of a macro let it be defined. Refused: ReservedName, Twice where a function or a macro

@@ -90,12 +90,7 @@ pub fn opaque_from(
     let mut args = Sequence::new(alloc);
     let mut number = first;
     for parameter in parameters {
-        args.push(application(
-            alloc,
-            number,
-            Sequence::new(alloc),
-            parameter.sort,
-        )?)?;
+        args.push(application(alloc, number, Sequence::new(alloc), parameter.sort)?)?;
         let following = number_behind(number)?;
         number = following;
     }

@@ -27,7 +27,12 @@ use term_operators::{
 
 /// The declared function of a name, as that of a pointwise map. A macro is none.
 #[tactic(auto, using(crate::proofs::Ends::macro_laws))]
-fn declared_map(alloc: Global, names: &Names, macros: &[Macro], name: &[u8]) -> Result<Pointwise, ReadError>
+fn declared_map(
+    alloc: Global,
+    names: &Names,
+    macros: &[Macro],
+    name: &[u8],
+) -> Result<Pointwise, ReadError>
     ensures { Means pointwise_of result (declared_pointwise (signature_of names.now macros.now) name.now (macro_named name.now (signature_of names.now macros.now).macros)) }
 {
     if let Some(_found) = macro_named(names, macros, name) {

@@ -40,8 +40,5 @@ pub fn numeral(digits: &[u8]) -> Result<MeasuredMeaning, ReadError>
         }
         value = value * 10 + more;
     }
-    Ok(MeasuredMeaning::Term(
-        Sort::Int,
-        MeasuredTerm::number(i128::from(value)),
-    ))
+    Ok(MeasuredMeaning::Term(Sort::Int, MeasuredTerm::number(i128::from(value))))
 }

@@ -48,12 +48,8 @@ fn is_relation(word: Word) -> bool
     ensures { result ≡ is_relation word }
 {
     match word {
-        Word::Equal
-        | Word::Distinct
-        | Word::AtMost
-        | Word::Below
-        | Word::AtLeast
-        | Word::Above => true,
+        Word::Equal | Word::Distinct | Word::AtMost | Word::Below | Word::AtLeast | Word::Above =>
+            true,
         Word::Not
         | Word::And
         | Word::Or

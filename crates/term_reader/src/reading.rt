@@ -3,18 +3,18 @@
 //! The functions call each other, so each takes how many calls may still be nested, which falls with each list and
 //! each macro's body. As many as 2^64 nested calls have no room in memory.
 
-ghost use Rattle.std.specs.Prelude.{◌≡◌, ◌+◌, ◌++◌, List, [], length, map, Result, IfOk, IsOk, OnOk, if◌then◌else◌};
+ghost use Rattle.std.specs.Prelude.{◌≡◌, ◌+◌, ◌++◌, List, [], None, Some, length, map, Result, IfOk, MatchOption, OnOk, if◌then◌else◌};
 ghost use Rattle.std.specs.List.{list_any};
 ghost use Rattle.mbqi_values.specs.declared.fault.FaultKind.{FaultKind};
 ghost use Rattle.smtlib_terms.specs.declared.meaning.Side.{Side};
-ghost use Rattle.smtlib_terms.specs.Answers.{Answers};
+ghost use Rattle.smtlib_terms.specs.Answers.{Answers, IsFault};
 ghost use Rattle.smtlib_terms.specs.Applying.{alone, meaning_in_scope, name_applied};
 ghost use Rattle.smtlib_terms.specs.Declaring.{reader_of};
 ghost use Rattle.smtlib_terms.specs.Meaning.{variables_of};
 ghost use Rattle.smtlib_terms.specs.Operators.{two_sides};
-ghost use Rattle.smtlib_terms.specs.Reading.{bindable, binder_name, body_read, first_read, list_read, meant_by, part_of, side, sides_read, trees_in};
+ghost use Rattle.smtlib_terms.specs.Reading.{bindable, binder_name, body_read, first_read, list_read, meant_by, part_of, side, sides_read, trees_in, variables_of_side};
 ghost use Rattle.term_operators.specs.Measured.{Means, meaning_of, meanings_of, side_of};
-ghost use Rattle.term_reader.specs.Plans.{arguments_read, binding_among, bindings_among, let_planned, macro_applied, only_part, operator_read, planned, quantifier_planned, truth_named};
+ghost use Rattle.term_reader.specs.Plans.{arguments_read, binding_among, bindings_among, is_difference, let_planned, macro_applied, only_part, operator_read, planned, quantifier_planned, second_side, truth_named, two_of};
 ghost use Rattle.smtlib_terms.specs.Words.{is_text};
 ghost use Rattle.term_reader.specs.Scopes.{binding_of, bindings_of, bound_of, names_in, signature_of};
 
@@ -94,22 +94,39 @@ fn bound_name(alloc: Global, tree: &Sexpr, before: &[Binding]) -> Result<Text, R
     Ok(Sequence::from_slice(alloc, name)?)
 }
 
-/// The two sides of an atom. A difference is at fault before what stands behind it.
-fn sides(
-    alloc: Global,
-    left: MeasuredSide,
-    right: Result<MeasuredSide, ReadError>,
-) -> Result<Meanings, ReadError>
-    ensures meant { (meant : Result Side FaultKind) → Means side_of right meant → Means meanings_of result (two_sides (side_of left) meant) }
-    ensures read { OnOk result (IsOk right) }
+/// Whether a side is a difference.
+fn is_difference(side: &MeasuredSide) -> bool
+    ensures { result ≡ is_difference (side_of side.now) }
 {
-    match right {
-        Ok(right) => two_sides(alloc, left, right),
-        Err(ReadError::Memory) => Err(ReadError::Memory),
-        Err(ReadError::Refused(refusal)) => match left {
-            MeasuredSide::Meant(_) => Err(ReadError::Refused(refusal)),
-            MeasuredSide::Difference(_, _) => Err(refused(FaultKind::NotDifference)),
-        },
+    match side {
+        MeasuredSide::Meant(_) => false,
+        MeasuredSide::Difference(_, _) => true,
+    }
+}
+
+/// The two parts that are paired.
+fn two_of(paired: bool, parts: &[Sexpr]) -> Option<(&Sexpr, &Sexpr)>
+    ensures { MatchOption result (two_of paired parts.now ≡ None) (λ two. two_of paired parts.now ≡ Some (two.0.now, two.1.now)) }
+{
+    match parts {
+        [first, second] => if paired { Some((first, second)) } else { None },
+        _ => None,
+    }
+}
+
+/// The fault of an atom whose second side has one. A difference before it is at fault first.
+fn second_fault(behind_difference: bool, error: ReadError) -> ReadError
+    ensures { (meant : Result Side FaultKind) → IsFault error meant → IsFault result (second_side behind_difference meant) }
+{
+    match error {
+        ReadError::Memory => ReadError::Memory,
+        ReadError::Refused(refusal) => {
+            if behind_difference {
+                refused(FaultKind::NotDifference)
+            } else {
+                ReadError::Refused(refusal)
+            }
+        }
     }
 }
 
@@ -162,11 +179,20 @@ fn read_macro(
     }
     let mut scope = Scope::new(alloc);
     scope.enter(arguments(alloc, parameters, args, next)?)?;
-    read_meaning(alloc, names, before, &mut scope, &definition.body, next, below)
+    read_meaning(
+        alloc,
+        names,
+        before,
+        &mut scope,
+        &definition.body,
+        next,
+        below,
+    )
 }
 
 /// A name with its arguments, by its innermost binding.
 #[cycle(reading)]
+#[tactic(auto, using(crate::proofs::ReadingLaws::name_of_function))]
 fn read_name(
     alloc: Global,
     names: &Names,
@@ -278,6 +304,53 @@ fn read_arguments(
     Ok(args)
 }
 
+/// The second side of an atom, behind one with so many variables.
+#[cycle(reading)]
+fn read_second(
+    alloc: Global,
+    names: &Names,
+    macros: &[Macro],
+    scope: &mut Scope,
+    tree: &Sexpr,
+    behind_difference: bool,
+    next: usize,
+    variables: usize,
+    levels: usize,
+) -> Result<MeasuredSide, ReadError>
+    ensures meant { Means side_of result (second_side behind_difference (side tree.now (signature_of names.now macros.now) scope.old (next + variables))) }
+    ensures scope { OnOk result (scope.new ≡ scope.old) }
+{
+    let behind = place_behind(next, variables)?;
+    match read_side(alloc, names, macros, scope, tree, behind, levels) {
+        Ok(right) => Ok(right),
+        Err(error) => Err(second_fault(behind_difference, error)),
+    }
+}
+
+/// The two sides of an atom, of which the first was read.
+#[cycle(reading)]
+#[tactic(auto, using(crate::proofs::ArgumentsRead::second_is))]
+fn read_beside(
+    alloc: Global,
+    names: &Names,
+    macros: &[Macro],
+    scope: &mut Scope,
+    left: MeasuredSide,
+    tree: &Sexpr,
+    next: usize,
+    levels: usize,
+) -> Result<Meanings, ReadError>
+    ensures meant { Means meanings_of result (two_sides (side_of left) (side tree.now (signature_of names.now macros.now) scope.old (next + variables_of_side (side_of left)))) }
+    ensures scope { OnOk result (scope.new ≡ scope.old) }
+{
+    let differs = is_difference(&left);
+    let variables = left.variables();
+    let right = read_second(
+        alloc, names, macros, scope, tree, differs, next, variables, levels,
+    )?;
+    two_sides(alloc, left, right)
+}
+
 /// The two sides of an atom, of which one may be a difference.
 #[cycle(reading)]
 fn read_sides(
@@ -294,13 +367,12 @@ fn read_sides(
     ensures scope { OnOk result (scope.new ≡ scope.old) }
 {
     let left = read_side(alloc, names, macros, scope, first, next, levels)?;
-    let behind = place_behind(next, left.variables())?;
-    let right = read_side(alloc, names, macros, scope, second, behind, levels);
-    sides(alloc, left, right)
+    read_beside(alloc, names, macros, scope, left, second, next, levels)
 }
 
 /// The arguments of an operator. Those that are paired are the sides of an atom.
 #[cycle(reading)]
+#[tactic(auto, using(crate::proofs::ArgumentsRead::operand_laws))]
 fn read_operands(
     alloc: Global,
     names: &Names,
@@ -314,13 +386,11 @@ fn read_operands(
     ensures meant { Means meanings_of result (operator_read paired (map part_of parts.now) (signature_of names.now macros.now) scope.old next) }
     ensures scope { OnOk result (scope.new ≡ scope.old) }
 {
-    let [first, second] = parts else {
-        return read_arguments(alloc, names, macros, scope, parts, true, next, levels);
-    };
-    if paired {
-        read_sides(alloc, names, macros, scope, first, second, next, levels)
-    } else {
-        read_arguments(alloc, names, macros, scope, parts, true, next, levels)
+    match two_of(paired, parts) {
+        Some((first, second)) => {
+            read_sides(alloc, names, macros, scope, first, second, next, levels)
+        }
+        None => read_arguments(alloc, names, macros, scope, parts, true, next, levels),
     }
 }
 
@@ -447,7 +517,9 @@ fn read_planned(
         }
         Plan::Let => read_let(alloc, names, macros, scope, parts, next, levels)?,
         Plan::Quantifier(word, variables) => {
-            read_quantifier(alloc, names, macros, scope, word, variables, parts, next, levels)?
+            read_quantifier(
+                alloc, names, macros, scope, word, variables, parts, next, levels,
+            )?
         }
         Plan::First => read_first(alloc, names, macros, scope, parts, next, levels)?,
     };
@@ -456,6 +528,7 @@ fn read_planned(
 
 /// What a list means.
 #[cycle(reading)]
+#[tactic(auto, using(crate::proofs::ReadingLaws::list_by_plan))]
 fn read_list(
     alloc: Global,
     names: &Names,
@@ -473,12 +546,23 @@ fn read_list(
         return Err(refused(FaultKind::BadForm));
     };
     let plan = plan_of(alloc, names, head, parts, next)?;
-    let side = read_planned(alloc, names, macros, scope, plan, text_of(head), parts, next, below)?;
+    let side = read_planned(
+        alloc,
+        names,
+        macros,
+        scope,
+        plan,
+        text_of(head),
+        parts,
+        next,
+        below,
+    )?;
     shallow(side)
 }
 
 /// What a tree means, or its first fault.
 #[cycle(reading)]
+#[tactic(auto, using(crate::proofs::ReadingLaws::symbol_laws, smtlib_terms::proofs::TermTrees::term_laws))]
 fn read_side(
     alloc: Global,
     names: &Names,
@@ -497,13 +581,30 @@ fn read_side(
                 Some(truth) => MeasuredMeaning::Formula(MeasuredFormula::truth(truth)),
                 None => {
                     let none = Sequence::new(alloc);
-                    read_name(alloc, names, macros, scope, text.as_slice(), next, none, levels)?
+                    read_name(
+                        alloc,
+                        names,
+                        macros,
+                        scope,
+                        text.as_slice(),
+                        next,
+                        none,
+                        levels,
+                    )?
                 }
             };
             Ok(MeasuredSide::Meant(m))
         }
         Sexpr::Numeral(digits) => Ok(MeasuredSide::Meant(numeral(digits.as_slice())?)),
-        Sexpr::List(trees) => read_list(alloc, names, macros, scope, trees.as_slice(), next, levels),
+        Sexpr::List(trees) => read_list(
+            alloc,
+            names,
+            macros,
+            scope,
+            trees.as_slice(),
+            next,
+            levels,
+        ),
         Sexpr::Keyword(_) => Err(refused(FaultKind::BadForm)),
         Sexpr::Decimal(_) | Sexpr::Hex(_) | Sexpr::Binary(_) | Sexpr::Str(_) => {
             Err(refused(FaultKind::Unsupported))

@@ -113,15 +113,13 @@ impl Scope {
 }
 
 /// The meaning with its variables moved: it was read at an earlier place, and is used so many places on.
-fn moved(
-    alloc: Global,
-    shift: Shift,
-    m: &MeasuredMeaning,
-) -> Result<MeasuredMeaning, AllocError>
+fn moved(alloc: Global, shift: Shift, m: &MeasuredMeaning) -> Result<MeasuredMeaning, AllocError>
     ensures { IfOk result (λ copy. meaning_of copy ≡ shifted shift.from shift.by (meaning_of m.now)) }
 {
     match m {
-        MeasuredMeaning::Formula(f) => Ok(MeasuredMeaning::Formula(moved_formula(alloc, shift, f)?)),
+        MeasuredMeaning::Formula(f) => Ok(MeasuredMeaning::Formula(moved_formula(
+            alloc, shift, f,
+        )?)),
         MeasuredMeaning::Term(sort, t) => Ok(MeasuredMeaning::Term(*sort, t.copy(alloc)?)),
         MeasuredMeaning::Array(index, element, a) => {
             Ok(MeasuredMeaning::Array(*index, *element, a.copy(alloc)?))

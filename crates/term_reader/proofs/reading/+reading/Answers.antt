@@ -1,15 +1,16 @@
 -- One more argument or binding was read, or the first fault was found.
-use Rattle.std.proofs.Common.{◌≡◌, ◌+◌, drop, List, [], ◌∷◌, map, Ok, ◌∙◌, refl, ap, arith}
+use Rattle.std.proofs.Common.{◌≡◌, ◌+◌, ◌-◌, length, take, drop, List, [], ◌∷◌, map, Ok, ◌∙◌, refl, ap, sym, arith}
 use Rattle.std.proofs.lemmas.List.{map-append}
 use Rattle.std.proofs.lemmas.Result.{err_from_is_err_and}
 use Rattle.std.proofs.lemmas.Grind.{common_steps}
 use Rattle.sexpr_text.specs.declared.tree.Sexpr.{Sexpr}
 use Rattle.smtlib_terms.specs.Reading.{meant_by, part_of, binder_name, trees_in}
-use Rattle.term_operators.specs.Measured.{meaning_of, meanings_of}
+use Rattle.term_operators.specs.Measured.{meaning_of, meanings_of, side_of}
 use Rattle.term_reader.specs.Plans.{arguments_behind, binding_among, bindings_behind}
 use Rattle.term_reader.specs.Scopes.{signature_of, binding_of, bindings_of, names_in}
 use Rattle.term_reader.proofs.ArgumentsRead.{arguments_end, arguments_faulty, arguments_start, arguments_step, bindings_end, bindings_faulty, bindings_start, bindings_step}
 use Rattle.term_reader.proofs.Ends.{bindings_end as one_more, names_end}
+use Rattle.term_reader.proofs.ReadingLaws.{list_of_side, list_without_plan, list_without_side, symbol_fault}
 use Rattle.term_reader.proofs.reading.+reading.Goals as goal
 
 pub read_arguments-loop-part-init : goal.read_arguments-loop-part-init
@@ -61,3 +62,29 @@ read_bindings-returns-clause-meant t c =
     let done : drop c.loop-tree.tree-index c.args.trees.now ≡ [] = grind (arith, common_steps) in
     c.loop-tree.invariant.1 ∙ ap (λ (ts : List Sexpr). bindings_behind (bindings_of c.loop-tree.bindings) ts (signature_of c.args.names.now c.args.macros.now) c.args.scope.now c.args.next (names_in c.loop-tree.bindings)) done
     ∙ bindings_end (bindings_of c.loop-tree.bindings) (signature_of c.args.names.now c.args.macros.now) c.args.scope.now c.args.next (names_in c.loop-tree.bindings)
+
+pub read_list-returns-in_err-plan-clause-meant : goal.read_list-returns-in_err-plan-clause-meant
+read_list-returns-in_err-plan-clause-meant t c =
+    let at : c.args.trees.now ≡ c.head-item.result ∷ take (length c.args.trees.now - 1) (drop 1 c.args.trees.now) = grind (arith, common_steps) in
+    let p = err_from_is_err_and c.from_residual-in_err-plan.result c.from_residual-in_err-plan.ensures.1 in
+    rw (p.1, p.2) (list_without_plan _ c.args.trees.now c.head-item.result (take (length c.args.trees.now - 1) (drop 1 c.args.trees.now)) c.args.names.now c.args.macros.now c.args.scope.now c.args.next at c.in_err-plan.ensures)
+
+pub read_list-returns-in_err-side-clause-meant : goal.read_list-returns-in_err-side-clause-meant
+read_list-returns-in_err-side-clause-meant t c =
+    let at : c.args.trees.now ≡ c.head-item.result ∷ take (length c.args.trees.now - 1) (drop 1 c.args.trees.now) = grind (arith, common_steps) in
+    let p = err_from_is_err_and c.from_residual-in_err-side.result c.from_residual-in_err-side.ensures.1 in
+    let fault = rw c.text_of.ensures at c.in_err-side.ensures.meant in
+    rw (p.1, p.2) (list_without_side _ c.args.trees.now c.head-item.result (take (length c.args.trees.now - 1) (drop 1 c.args.trees.now)) c.in_ok-plan.plan c.args.names.now c.args.macros.now c.args.scope.now c.args.next at c.in_ok-plan.ensures fault)
+
+pub read_list-returns-clause-meant : goal.read_list-returns-clause-meant
+read_list-returns-clause-meant t c =
+    let at : c.args.trees.now ≡ c.head-item.result ∷ take (length c.args.trees.now - 1) (drop 1 c.args.trees.now) = grind (arith, common_steps) in
+    let is = rw c.text_of.ensures at c.in_ok-side.ensures.meant in
+    rw (list_of_side c.args.trees.now c.head-item.result (take (length c.args.trees.now - 1) (drop 1 c.args.trees.now)) c.in_ok-plan.plan (side_of c.in_ok-side.side) c.args.names.now c.args.macros.now c.args.scope.now c.args.next at c.in_ok-plan.ensures is) c.shallow.ensures
+
+pub read_side-returns-in_err-m-in-None-clause-meant : goal.read_side-returns-in_err-m-in-None-clause-meant
+read_side-returns-in_err-m-in-None-clause-meant t c =
+    let p = err_from_is_err_and c.from_residual.result c.from_residual.ensures.1 in
+    let fault = rw (c.new-none.ensures, c.as_slice-in-None.ensures) at c.in_err-m-in-None.ensures in
+    let none = rw c.as_slice.ensures at c.in-None.ensures in
+    rw (c.in-Symbol.is, p.1, p.2) (symbol_fault _ (signature_of c.args.names.now c.args.macros.now) c.args.scope.now c.in-Symbol.text c.args.next (sym none) fault)

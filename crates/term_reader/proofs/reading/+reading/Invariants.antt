@@ -31,14 +31,20 @@ decreases-read_arguments l = 16 * l.levels + 6
 abbrev pub decreases-read_binding : goal.decreases-read_binding
 decreases-read_binding l = 16 * l.levels + 6
 
+abbrev pub decreases-read_second : goal.decreases-read_second
+decreases-read_second l = 16 * l.levels + 5
+
+abbrev pub decreases-read_beside : goal.decreases-read_beside
+decreases-read_beside l = 16 * l.levels + 6
+
 abbrev pub decreases-read_sides : goal.decreases-read_sides
-decreases-read_sides l = 16 * l.levels + 6
+decreases-read_sides l = 16 * l.levels + 7
 
 abbrev pub decreases-read_body : goal.decreases-read_body
 decreases-read_body l = 16 * l.levels + 7
 
 abbrev pub decreases-read_operands : goal.decreases-read_operands
-decreases-read_operands l = 16 * l.levels + 7
+decreases-read_operands l = 16 * l.levels + 8
 
 abbrev pub decreases-read_bindings : goal.decreases-read_bindings
 decreases-read_bindings l = 16 * l.levels + 7
@@ -57,10 +63,10 @@ abbrev pub invariant-read_arguments-loop-part : goal.invariant-read_arguments-lo
 invariant-read_arguments-loop-part l =
     (l.scope ≡ l.fn.scope)
     × (arguments_read l.counted (map part_of l.parts) (signature_of l.names l.macros) l.fn.scope l.fn.next
-        ≡ arguments_behind (meanings_of l.args) l.counted (map part_of (drop l.part-index l.parts)) (signature_of l.names l.macros) l.fn.scope l.next)
+    ≡ arguments_behind (meanings_of l.args) l.counted (map part_of (drop l.part-index l.parts)) (signature_of l.names l.macros) l.fn.scope l.next)
 
 abbrev pub invariant-read_bindings-loop-tree : goal.invariant-read_bindings-loop-tree
 invariant-read_bindings-loop-tree l =
     (l.scope ≡ l.fn.scope)
     × (bindings_among l.trees (signature_of l.names l.macros) l.fn.scope l.next []
-        ≡ bindings_behind (bindings_of l.bindings) (drop l.tree-index l.trees) (signature_of l.names l.macros) l.fn.scope l.next (names_in l.bindings))
+    ≡ bindings_behind (bindings_of l.bindings) (drop l.tree-index l.trees) (signature_of l.names l.macros) l.fn.scope l.next (names_in l.bindings))
