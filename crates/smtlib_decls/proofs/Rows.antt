@@ -26,7 +26,8 @@ use Rattle.smtlib_terms.specs.Meaning.{shifted_formula, shifted_term, depth_of_f
 use Rattle.smtlib_terms.specs.Names.{sort_meant}
 use Rattle.smtlib_terms.specs.Reading.{side, trees_in}
 use Rattle.smtlib_terms.specs.Words.{word_of, is_reserved, is_reserved_word}
-use Rattle.smtlib_decls.specs.Commands.{command_meant, command_of, constant_declared, function_command, signature_declared}
+use Rattle.term_reader.specs.Defining.{definition_parts}
+use Rattle.smtlib_decls.specs.Commands.{command_meant, command_of, constant_declared, definition_behind, function_command, signature_declared}
 use Rattle.smtlib_decls.specs.Labels.{label_of}
 use Rattle.smtlib_decls.specs.Means.{Refused}
 use Rattle.smtlib_decls.specs.Scripts.{is_exit, script_meant}
@@ -291,8 +292,17 @@ definition_behind_the_question : script_meant
     ∷ form 11 38 (list (symbol (codes "define-fun") ∷ symbol (codes "g") ∷ list ([]) ∷ symbol (codes "Bool") ∷ symbol (codes "true") ∷ []))
     ∷ [])
     ≡ Err (record { at = 11; kind = kind.Unsupported })
-unfolding command_meant command_of label_of is_exit function_command constant_declared signature_declared formula_read sort_declared function_declared side trees_in word_of sort_meant is_reserved is_reserved_word shifted_formula shifted_term depth_of_formula depth_of_term depth_of_array varies variables_in hidden-the_row-Sexpr-0 hidden-the_row-Term-1 hidden-the_row-Formula-0 hidden
+unfolding command_meant command_of definition_behind definition_parts label_of is_exit function_command constant_declared signature_declared formula_read sort_declared function_declared side trees_in word_of sort_meant is_reserved is_reserved_word shifted_formula shifted_term depth_of_formula depth_of_term depth_of_array varies variables_in hidden-the_row-Sexpr-0 hidden-the_row-Term-1 hidden-the_row-Formula-0 hidden
 definition_behind_the_question = search (rules, formulas.the_lemmas, terms.the_lemmas)
+
+-- (check-sat)(define-fun let () Bool true)
+reserved_definition_behind_the_question : script_meant
+    (form 0 11 (list (symbol (codes "check-sat") ∷ []))
+    ∷ form 11 40 (list (symbol (codes "define-fun") ∷ symbol (codes "let") ∷ list ([]) ∷ symbol (codes "Bool") ∷ symbol (codes "true") ∷ []))
+    ∷ [])
+    ≡ Err (record { at = 11; kind = kind.Unsupported })
+unfolding command_meant command_of definition_behind definition_parts label_of is_exit function_command constant_declared signature_declared formula_read sort_declared function_declared side trees_in word_of sort_meant is_reserved is_reserved_word shifted_formula shifted_term depth_of_formula depth_of_term depth_of_array varies variables_in hidden-the_row-Sexpr-0 hidden-the_row-Term-1 hidden-the_row-Formula-0 hidden
+reserved_definition_behind_the_question = search (rules, formulas.the_lemmas, terms.the_lemmas)
 
 -- (check-sat)(assert true)
 assertion_behind_the_question : script_meant
