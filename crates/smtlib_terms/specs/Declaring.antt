@@ -11,7 +11,6 @@ use Rattle.smtlib_terms.specs.declared.meaning.Bound.TheVariants.{Value}
 use Rattle.smtlib_terms.specs.declared.meaning.Meaning.{Meaning}
 use Rattle.smtlib_terms.specs.declared.names.Binding.{Binding}
 use Rattle.smtlib_terms.specs.declared.names.Macro.{Macro}
-use Rattle.smtlib_terms.specs.declared.names.Names.{Names}
 use Rattle.smtlib_terms.specs.declared.names.Parameter.{Parameter}
 use Rattle.smtlib_terms.specs.Applying.{application}
 use Rattle.smtlib_terms.specs.Meaning.{sort_of}
@@ -21,8 +20,10 @@ use Rattle.smtlib_terms.specs.Reading.{bindable, binder_name, binder_sort, is_bi
 use Rattle.smtlib_terms.specs.Words.{is_one_of, is_reserved}
 
 -- What was declared and defined, in order (SMT-LIB 2.6, section 4.2.3).
-abbrev pub Declarations : Type 0
-Declarations = Names
+pub record Declarations : Type 0 where
+  pub sorts : List (List ℕ)
+  pub functions : List Function
+  pub macros : List Macro
 
 -- The arguments of a macro, each under the name of its parameter, as values of a `let`.
 abbrev pub arguments : List Parameter → List Meaning → ℕ → List Binding
@@ -44,10 +45,18 @@ reader_of names m = record {
 abbrev pub with_macro : Signature → Macro → Signature
 with_macro names m = record { sorts = names.sorts; functions = names.functions; macros = reader_of names m ∷ names.macros }
 
+-- The names that declared sorts and functions bring, with these macros.
+abbrev pub signature_of : Declarations → List Macro → Signature
+signature_of d macros = fold with_macro (record { sorts = d.sorts; functions = d.functions; macros = [] }) macros
+
 -- The names that a script's declarations and definitions bring. Names differ and are never declared anew, so the
 -- names of a macro's body mean at each application what they meant at its definition.
 abbrev pub names_of : Declarations → Signature
-names_of d = fold with_macro (record { sorts = d.sorts; functions = d.functions; macros = [] }) d.macros
+names_of d = signature_of d d.macros
+
+-- Those that a macro's body may use: the first so many macros alone.
+abbrev pub names_before : Declarations → ℕ → Signature
+names_before d macros = signature_of d (take macros d.macros)
 
 -- A sort's and a formula's meaning by the declarations, or the first fault.
 abbrev pub sort_read : Declarations → Sexpr → Result Sort FaultKind

@@ -8,4 +8,3 @@ pub mod Reading
 pub mod Declaring
 pub mod Answers
 pub mod Steps
-pub mod Binders

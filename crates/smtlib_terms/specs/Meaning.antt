@@ -1,4 +1,4 @@
-use Rattle.std.specs.Prelude.{◌≡◌, ℕ, ◌+◌, max, Bool, true, false, ◌||◌, nat_le, nat_lt, List, length, map, sum, Result, Ok, Err, if◌then◌else◌}
+use Rattle.std.specs.Prelude.{ℕ, ◌+◌, max, Bool, true, false, ◌||◌, nat_le, nat_lt, List, length, map, sum, Result, Ok, Err, if◌then◌else◌}
 use Rattle.std.specs.List.{fold, list_any}
 use Rattle.mbqi_values.specs.declared.fault.FaultKind.{FaultKind}
 use Rattle.mbqi_values.specs.declared.fault.FaultKind.TheVariants.{TooDeep}
@@ -188,9 +188,3 @@ abbrev pub varies_of : Meaning → Bool
 varies_of (meaning.Formula f) = false
 varies_of (meaning.Term s t) = varies_term t
 varies_of (meaning.Array i e a) = varies a
-
--- The measures of a meaning.
-pub record IsMeasured (m : Meaning) (depth variables : ℕ) (varying : Bool) : Type 0 where
-  pub deep : depth ≡ depth_of m
-  pub binds : variables ≡ variables_of m
-  pub varies : varying ≡ varies_of m

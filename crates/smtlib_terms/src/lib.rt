@@ -1,14 +1,14 @@
-//! Sorts, terms, `let` and macros of SMT-LIB 2.6, as far as this project reads them.
+//! Sorts, terms, `let` and macros of SMT-LIB 2.6, as far as this project reads them: what a tree means, or which kind of
+//! refusal it meets.
 //!
-//! Start with [`meaning::Meaning`], what a tree means, and `specs/Reading.antt`, which says which meaning a
-//! tree has, or which kind of refusal.
+//! The definitions stand in `specs/`, beginning with `Reading.antt`. In code there are the types that they speak of, and the
+//! [`word`]s.
 
 #![tactic(auto)]
 
-pub mod binders;
-pub mod declaring;
 pub mod meaning;
 pub mod names;
-pub mod scope;
-pub mod sorts;
+mod refusal;
 pub mod word;
+
+pub use refusal::refused;

@@ -1,6 +1,8 @@
+//! Names that stand for something, as the definitions speak of them.
+
 use crate::meaning::Bound;
-use mbqi_terms::{Binder, Functions, Sort};
-use mbqi_values::{Sequence, Text, Texts};
+use mbqi_terms::{Binder, Sort};
+use mbqi_values::{Sequence, Text};
 use sexpr_text::Sexpr;
 
 /// A name with a sort, as a macro's parameters have.
@@ -22,22 +24,11 @@ pub struct Macro {
     pub body: Sexpr,
 }
 
-/// The macros of a script, in order of their definitions.
-pub type Macros = Sequence<Macro>;
-
 /// A name in scope, with what it stands for.
 #[derive(Drop)]
 pub struct Binding {
     pub name: Text,
     pub bound: Bound,
-}
-
-/// What was declared and defined, in order.
-#[derive(Drop)]
-pub struct Names {
-    pub sorts: Texts,
-    pub functions: Functions,
-    pub macros: Macros,
 }
 
 /// A variable of a quantifier, with its name.
@@ -49,11 +40,3 @@ pub struct Variable {
 
 /// The variables of a quantifier, in order.
 pub type Variables = Sequence<Variable>;
-
-/// How many names of each kind there are.
-#[derive(Clone, Copy, Debug, PartialEq, Eq)]
-pub struct NamesMark {
-    pub sorts: usize,
-    pub functions: usize,
-    pub macros: usize,
-}

@@ -1,4 +1,1 @@
-pub mod Arities
-pub mod Ends
-pub mod Subtractions
-pub mod MapLaws
+pub mod Besides

@@ -3,19 +3,19 @@
 ghost use Rattle.std.specs.Prelude.{◌≡◌, [], ◌∷◌, Ok, IfOk};
 ghost use Rattle.smtlib_terms.specs.Answers.{Answers};
 ghost use Rattle.smtlib_terms.specs.Operators.{applied, two_sides};
-ghost use Rattle.term_operators.specs.Measured.{Means, meaning_of, meanings_of, side_of};
+ghost use Rattle.operator_arguments.specs.Measured.{Means, meaning_of, meanings_of, side_of};
 ghost use Rattle.term_operators.specs.Steps.{formula_of, moved_beside, numeral_of};
 
-use crate::arguments::Meanings;
-use crate::array_operators::{defaulting, selection, storing};
-use crate::connectives::{choice, conjunction, disjunction, exclusion, implication, negated};
-use crate::meaning::{MeasuredMeaning, MeasuredSide};
-use crate::relations::{distinct, equal, order};
-use crate::sums::{addition, moved_by, number_of};
+use array_operators::{defaulting, selection, storing};
+use formula_operators::{
+    addition, choice, conjunction, disjunction, distinct, equal, exclusion, implication, moved_by,
+    negated, number_of, order,
+};
 use mbqi_terms::Sort;
 use mbqi_values::{FaultKind, ReadError, Sequence};
 use measured_terms::{MeasuredFormula, MeasuredTerm};
-use smtlib_terms::sorts::refused;
+use operator_arguments::{Meanings, MeasuredMeaning, MeasuredSide};
+use smtlib_terms::refused;
 use smtlib_terms::word::Word;
 use std::alloc::{AllocError, Global};
 
@@ -128,7 +128,7 @@ fn moved_beside(
 
 /// The two arguments that an atom compares, of which one may be a difference. Refused: NotDifference where no numeral
 /// stands beside it, OffsetTooWide where the number of the moved term is past its limit.
-#[tactic(auto, using(crate::proofs::Subtractions::beside_is))]
+#[tactic(auto, using(crate::proofs::Besides::beside_is))]
 pub fn two_sides(
     alloc: Global,
     first: MeasuredSide,

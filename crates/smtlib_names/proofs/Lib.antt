@@ -1,0 +1,2 @@
+pub mod BindersRead
+pub mod Named

@@ -1,0 +1,165 @@
+-- Names found in tables are the names that the definitions find.
+use Rattle.std.proofs.Common.{◌≡◌, ◌≢◌, ℕ, zero, suc, ◌+◌, ◌<◌, Bool, true, false, ◌||◌, List, [], ◌∷◌, ◌++◌, length, map, take, Option, None, Some, position, slice_get, refl, sym, ap, subst, ◌∙◌, cond, ◌≤◌, arith}
+use Rattle.std.specs.Prelude.{if◌then◌else◌}
+use Rattle.std.specs.List.{fold, list_any, position_from}
+use Rattle.std.proofs.lemmas.Slice.Eq.{bytes_eq-Decides}
+use Rattle.std.proofs.lemmas.Iterator.Adapters.{position_from-zero}
+use Rattle.name_tables.specs.Names.{with_name}
+use Rattle.mbqi_terms.specs.declared.script.Function.{Function}
+use Rattle.smtlib_terms.specs.declared.names.Macro.{Macro}
+use Rattle.smtlib_terms.specs.Declaring.{Declarations, names_before, reader_of, signature_of, with_macro}
+use Rattle.smtlib_terms.specs.Names.{Signature, function_named, macro_named}
+use Rattle.smtlib_terms.specs.Words.{is_one_of, is_text}
+
+-- a name that is none of the list comes last
+pub new_name : (names : List (List ℕ)) (name : List ℕ) → is_one_of names name ≡ false → with_name names name ≡ names ++ name ∷ []
+new_name names name new = ap (λ (there : Bool). if there then names else names ++ name ∷ []) new
+
+or_false : (b : Bool) → (b || false) ≡ b
+or_false true = refl
+or_false false = refl
+
+-- one of the functions, or of the macros, has the name
+pub any_function : (fs : List Function) (name : List ℕ)
+    → list_any (λ (f : Function). is_one_of (f.name ∷ []) name) fs ≡ is_one_of (map (λ (f : Function). f.name) fs) name
+any_function [] name = refl
+any_function (f ∷ fs) name = (λ j. or_false (is_text f.name name) j || any_function fs name j)
+
+pub any_macro : (ms : List Macro) (name : List ℕ)
+    → list_any (λ (m : Macro). is_one_of (m.name ∷ []) name) ms ≡ is_one_of (map (λ (m : Macro). m.name) ms) name
+any_macro [] name = refl
+any_macro (m ∷ ms) name = (λ j. or_false (is_text m.name name) j || any_macro ms name j)
+
+-- a name that is at no place, and one that is at a place alone
+abbrev pub IsNowhere : List ℕ → List (List ℕ) → Type 0
+IsNowhere name names = (k : ℕ) (x : List ℕ) → slice_get names k ≡ Some x → is_text name x ≡ false
+
+abbrev pub IsOnlyAt : List ℕ → List (List ℕ) → ℕ → Type 0
+IsOnlyAt name names i = (k : ℕ) → slice_get names k ≡ Some name → k ≡ i
+
+same_text : (a b : List ℕ) → is_text a b ≡ true → a ≡ b
+same_text a b = (bytes_eq-Decides a b).0
+
+own_text : (a : List ℕ) → is_text a a ≡ true
+own_text a = (bytes_eq-Decides a a).1 refl
+
+other_text : (a b : List ℕ) → a ≢ b → is_text a b ≡ false
+other_text a b differ = go (is_text a b) refl
+  where
+    go : (t : Bool) → is_text a b ≡ t → is_text a b ≡ false
+    go true e = absurd (differ (same_text a b e))
+    go false e = e
+
+nowhere_from : (name : List ℕ) (at : ℕ) (names : List (List ℕ)) → position_from (is_text name) at names ≡ None → IsNowhere name names
+nowhere_from name at [] none k x there = cc
+nowhere_from name at (y ∷ ys) none k x there = go (is_text name y) refl none k there
+  where
+    go : (t : Bool) → is_text name y ≡ t → cond t (Some at) (position_from (is_text name) (at + 1) ys) ≡ None → (k : ℕ) → slice_get (y ∷ ys) k ≡ Some x → is_text name x ≡ false
+    go true e found k there = cc
+    go false e found zero there = let same : y ≡ x = cc in subst (λ z. is_text name z ≡ false) same e
+    go false e found (suc k) there = nowhere_from name (at + 1) ys found k x there
+
+pub nowhere : (name : List ℕ) (names : List (List ℕ)) → position (is_text name) names ≡ None → IsNowhere name names
+nowhere name names none = nowhere_from name 0 names (sym (position_from-zero (is_text name) names) ∙ none)
+
+-- a function that is nowhere, and one at its place
+pub function_nowhere : (name : List ℕ) (at : ℕ) (fs : List Function) → IsNowhere name (map (λ (f : Function). f.name) fs) → function_named name at fs ≡ None
+function_nowhere name at [] none = refl
+function_nowhere name at (f ∷ fs) none =
+    let other : is_text name f.name ≡ false = none 0 f.name refl in
+    rw other (function_nowhere name (at + 1) fs (λ k. none (suc k)))
+
+pub function_at : (name : List ℕ) (at : ℕ) (fs : List Function) (i : ℕ) (f : Function)
+    → slice_get fs i ≡ Some f → name ≡ f.name → IsOnlyAt name (map (λ (f : Function). f.name) fs) i → function_named name at fs ≡ Some (at + i, f)
+function_at name at [] i f there named only = cc
+function_at name at (g ∷ gs) zero f there named only =
+    let same : g ≡ f = cc in
+    let own : is_text name g.name ≡ true = subst (λ (h : Function). is_text name h.name ≡ true) (sym same) (subst (λ n. is_text name n ≡ true) named (own_text name)) in
+    let number : at ≡ at + 0 = omega arith in
+    let found : Some (at, g) ≡ Some (at + 0, f) = ap (λ (h : Function). Some (at, h)) same ∙ ap (λ (n : ℕ). Some (n, f)) number in
+    rw own found
+function_at name at (g ∷ gs) (suc i) f there named only =
+    let other : is_text name g.name ≡ false = other_text name g.name (λ same. let first : 0 ≡ suc i = only 0 (ap Some (sym same)) in absurd (omega arith)) in
+    let later = function_at name (at + 1) gs i f there named (λ k e. let at_k : suc k ≡ suc i = only (suc k) e in omega arith) in
+    let number : at + 1 + i ≡ at + suc i = omega arith in
+    let found : function_named name (at + 1) gs ≡ Some (at + suc i, f) = later ∙ ap (λ (n : ℕ). Some (n, f)) number in
+    rw other found
+
+-- macros of other names bring no macro of the name
+macro_behind : (name : List ℕ) (names : Signature) (ms : List Macro) → IsNowhere name (map (λ (m : Macro). m.name) ms)
+    → macro_named name (fold with_macro names ms).macros ≡ macro_named name names.macros
+macro_behind name names [] none = refl
+macro_behind name names (m ∷ ms) none =
+    let other : is_text name m.name ≡ false = none 0 m.name refl in
+    macro_behind name (with_macro names m) ms (λ k. none (suc k)) ∙ rw other refl
+
+-- a macro at its place, the last of its name
+macro_at : (name : List ℕ) (names : Signature) (ms : List Macro) (i : ℕ) (m : Macro)
+    → slice_get ms i ≡ Some m → name ≡ m.name → IsOnlyAt name (map (λ (m : Macro). m.name) ms) i
+    → macro_named name (fold with_macro names ms).macros ≡ Some (reader_of (fold with_macro names (take i ms)) m)
+macro_at name names [] i m there named only = cc
+macro_at name names (n ∷ ms) zero m there named only =
+    let same : n ≡ m = cc in
+    let own : is_text name n.name ≡ true = subst (λ (h : Macro). is_text name h.name ≡ true) (sym same) (subst (λ x. is_text name x ≡ true) named (own_text name)) in
+    let later : IsNowhere name (map (λ (m : Macro). m.name) ms) =
+    (λ k x e. other_text name x (λ named_x. let first : suc k ≡ 0 = only (suc k) (e ∙ ap Some (sym named_x)) in absurd (omega arith))) in
+    macro_behind name (with_macro names n) ms later ∙ rw own (ap (λ (h : Macro). Some (reader_of names h)) same)
+macro_at name names (n ∷ ms) (suc i) m there named only =
+    macro_at name (with_macro names n) ms i m there named (λ k e. let at_k : suc k ≡ suc i = only (suc k) e in omega arith)
+
+-- the first items of a list are at their places in it
+front_get : {A : Type 0} (xs : List A) (n k : ℕ) (x : A) → slice_get (take n xs) k ≡ Some x → slice_get xs k ≡ Some x
+front_get xs zero k x e = cc
+front_get [] (suc n) k x e = cc
+front_get (y ∷ ys) (suc n) zero x e = e
+front_get (y ∷ ys) (suc n) (suc k) x e = front_get ys n k x e
+
+front_within : {A : Type 0} (xs : List A) (n k : ℕ) (x : A) → slice_get xs k ≡ Some x → k < n → slice_get (take n xs) k ≡ Some x
+front_within xs zero k x e within = absurd (omega arith)
+front_within [] (suc n) k x e within = cc
+front_within (y ∷ ys) (suc n) zero x e within = e
+front_within (y ∷ ys) (suc n) (suc k) x e within = front_within ys n k x e (omega arith)
+
+front_of_front : {A : Type 0} (xs : List A) (n i : ℕ) → i ≤ n → take i (take n xs) ≡ take i xs
+front_of_front xs n zero within = refl
+front_of_front xs zero (suc i) within = absurd (omega arith)
+front_of_front [] (suc n) (suc i) within = refl
+front_of_front (x ∷ xs) (suc n) (suc i) within = ap (λ ys. x ∷ ys) (front_of_front xs n i (omega arith))
+
+front_names : (n : ℕ) (ms : List Macro) → map (λ (m : Macro). m.name) (take n ms) ≡ take n (map (λ (m : Macro). m.name) ms)
+front_names zero ms = refl
+front_names (suc n) [] = refl
+front_names (suc n) (m ∷ ms) = ap (λ ys. m.name ∷ ys) (front_names n ms)
+
+-- the macro of a name among the first so many
+pub macro_nowhere : (d : Declarations) (name : List ℕ) (first : ℕ) → IsNowhere name (map (λ (m : Macro). m.name) d.macros)
+    → macro_named name (names_before d first).macros ≡ None
+macro_nowhere d name first none =
+    macro_behind name (signature_of d []) (take first d.macros)
+    (λ k x e. none k x (front_get (map (λ (m : Macro). m.name) d.macros) first k x (subst (λ ys. slice_get ys k ≡ Some x) (front_names first d.macros) e)))
+
+pub macro_past : (d : Declarations) (name : List ℕ) (first i : ℕ) → IsOnlyAt name (map (λ (m : Macro). m.name) d.macros) i → first ≤ i
+    → macro_named name (names_before d first).macros ≡ None
+macro_past d name first i only past =
+    macro_behind name (signature_of d []) (take first d.macros)
+    (λ k x e. other_text name x (λ named.
+    let in_front : slice_get (take first (map (λ (m : Macro). m.name) d.macros)) k ≡ Some x = subst (λ ys. slice_get ys k ≡ Some x) (front_names first d.macros) e in
+    let at : k ≡ i = only k (front_get (map (λ (m : Macro). m.name) d.macros) first k x in_front ∙ ap Some (sym named)) in
+    let within : k < first = front_is_within (map (λ (m : Macro). m.name) d.macros) first k x in_front in
+    absurd (omega arith)))
+  where
+    front_is_within : {A : Type 0} (xs : List A) (n k : ℕ) (x : A) → slice_get (take n xs) k ≡ Some x → k < n
+    front_is_within xs zero k x e = cc
+    front_is_within [] (suc n) k x e = cc
+    front_is_within (y ∷ ys) (suc n) zero x e = omega arith
+    front_is_within (y ∷ ys) (suc n) (suc k) x e = let later : k < n = front_is_within ys n k x e in omega arith
+
+pub macro_before : (d : Declarations) (name : List ℕ) (first i : ℕ) (m : Macro)
+    → slice_get d.macros i ≡ Some m → name ≡ m.name → IsOnlyAt name (map (λ (m : Macro). m.name) d.macros) i → i < first
+    → macro_named name (names_before d first).macros ≡ Some (reader_of (names_before d i) m)
+macro_before d name first i m there named only within =
+    let front_only : IsOnlyAt name (map (λ (m : Macro). m.name) (take first d.macros)) i =
+    (λ k e. only k (front_get (map (λ (m : Macro). m.name) d.macros) first k name (subst (λ ys. slice_get ys k ≡ Some name) (front_names first d.macros) e))) in
+    let found = macro_at name (signature_of d []) (take first d.macros) i m (front_within d.macros first i m there within) named front_only in
+    let at_most : i ≤ first = omega arith in
+    found ∙ ap (λ (ms : List Macro). Some (reader_of (signature_of d ms) m)) (front_of_front d.macros first i at_most)

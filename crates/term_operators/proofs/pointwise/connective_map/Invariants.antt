@@ -1,8 +1,0 @@
--- A place for each argument that was passed.
-use Rattle.std.proofs.Common.{◌≡◌, map, take}
-use Rattle.mbqi_terms.specs.declared.sort.Sort.TheVariants as sort
-use Rattle.term_operators.specs.Measured.{meanings_of}
-use Rattle.term_operators.proofs.pointwise.connective_map.Given as goal
-
-abbrev pub invariant-loop-m : goal.invariant-loop-m
-invariant-loop-m l = l.places ≡ map (λ m. sort.Truth) (meanings_of (take l._m-index l.args))

@@ -1,9 +1,0 @@
--- A quantifier stands in the meanings that are left exactly where one stands in all.
-use Rattle.std.proofs.Common.{◌≡◌, drop}
-use Rattle.std.specs.List.{list_any}
-use Rattle.smtlib_terms.specs.Operators.{is_quantified_meaning}
-use Rattle.term_operators.specs.Measured.{meanings_of}
-use Rattle.term_operators.proofs.relations.any_quantified.Given as goal
-
-abbrev pub invariant-loop-m : goal.invariant-loop-m
-invariant-loop-m l = list_any is_quantified_meaning (meanings_of (drop l.m-index l.args)) ≡ list_any is_quantified_meaning (meanings_of l.args)
