@@ -1,13 +1,12 @@
 -- Lists of keys that are seen as their texts.
-use Rattle.std.proofs.Common.{◌≡◌, ◌+◌, ℕ, zero, suc, Bool, true, false, true≢false, not, cond, nat_lt, List, [], ◌∷◌, ◌++◌, ◌||◌, length, map, Option, Some, None, IfSome, get_or, slice_get, nat_eq, position, if◌then◌else◌, refl, sym, ap, subst, ◌∙◌}
+use Rattle.std.proofs.Common.{◌≡◌, ◌+◌, ℕ, zero, suc, Bool, true, false, true≢false, not, cond, nat_lt, List, [], ◌∷◌, ◌++◌, ◌||◌, map, Option, Some, None, IfSome, get_or, slice_get, nat_eq, position, if◌then◌else◌, refl, sym, ap, subst, ◌∙◌}
 use Rattle.std.specs.Cmp.Lexicographic.{pointwise, same_text, nat_list_eq_equiv}
 use Rattle.std.specs.List.{list_any, AllByRecursion, IsDistinct, position_or_len}
 use Rattle.std.proofs.lemmas.List.{length-map}
 use Rattle.std.proofs.lemmas.List.Quantifiers.{position-Some}
-use Rattle.std.proofs.lemmas.Map.Keys.{IsDistinct-head, IsDistinct-tail, IsDistinct-cons}
+use Rattle.std.proofs.lemmas.Map.Keys.{IsDistinct-head, IsDistinct-tail}
 use Rattle.std.proofs.lemmas.Option.{slice_get-get_or}
 use Rattle.indexmap.specs.IndexSet.{insert_key}
-use Rattle.name_tables.specs.Names.{with_name}
 
 -- what holds of each element holds of the one at a place
 all_at : {K : Type 0} (P : K → Type 0) (xs : List K) (i : ℕ) (x : K) → AllByRecursion P xs → slice_get xs i ≡ Some x → P x
@@ -49,10 +48,6 @@ only_there xs x None d e = tt
 only_there xs x (Some i) d e = λ k f. places_distinct xs d k i x f (position_is xs x i (sym e))
 
 module _ {K : Type 0} (text : K → List ℕ) where
-  pub list_any-map : (p : List ℕ → Bool) (ks : List K) → list_any p (map text ks) ≡ list_any (λ k. p (text k)) ks
-  list_any-map p [] = refl
-  list_any-map p (k ∷ ks) = ap (λ b. p (text k) || b) (list_any-map p ks)
-
   position_or_len-map : (p : List ℕ → Bool) (ks : List K) → position_or_len p (map text ks) ≡ position_or_len (λ k. p (text k)) ks
   position_or_len-map p [] = refl
   position_or_len-map p (k ∷ ks) = ap (λ n. cond (not (p (text k))) (1 + n) 0) (position_or_len-map p ks)
@@ -80,18 +75,9 @@ module _ {K : Type 0} (text : K → List ℕ) where
   append-map [] k = refl
   append-map (l ∷ ks) k = ap (λ r. text l ∷ r) (append-map ks k)
 
-  -- the list of texts after an insertion of a key that has the text
-  pub inserted : (name : List ℕ) (old : List K) (k : K) → text k ≡ name → map text (insert_key (λ k l. pointwise nat_eq (text k) (text l)) old k) ≡ with_name (map text old) name
-  inserted name old k e =
-      let test = found_by_text (text k) old in
-      subst (λ n. map text (insert_key (λ k l. pointwise nat_eq (text k) (text l)) old k) ≡ with_name (map text old) n) e
-      (by (list_any (λ l. pointwise nat_eq (text k) (text l)) old) refl ∙ ap (λ b. if b then map text old else map text old ++ text k ∷ []) test)
-    where
-      by : (b : Bool) → list_any (λ l. pointwise nat_eq (text k) (text l)) old ≡ b
-          → map text (insert_key (λ k l. pointwise nat_eq (text k) (text l)) old k) ≡ (if list_any (λ l. pointwise nat_eq (text k) (text l)) old then map text old else map text old ++ text k ∷ [])
-      by true p = ap (λ b. map text (if b then old else old ++ k ∷ [])) p ∙ ap (λ b. if b then map text old else map text old ++ text k ∷ []) (sym p)
-      by false p = ap (λ b. map text (if b then old else old ++ k ∷ [])) p ∙ (append-map old k ∙ ap (λ b. if b then map text old else map text old ++ text k ∷ []) (sym p))
-
-  -- a text that is there stays where it is
-  pub stays : (name : List ℕ) (old : List K) → true ≡ list_any (λ k. pointwise nat_eq name (text k)) old → map text old ≡ with_name (map text old) name
-  stays name old e = ap (λ b. if b then map text old else map text old ++ name ∷ []) (e ∙ found_by_text name old)
+  -- the list of texts after an insertion of a key whose text isn't there
+  pub added : (name : List ℕ) (old : List K) (k : K) → text k ≡ name → list_any (λ other. pointwise nat_eq other name) (map text old) ≡ false
+      → map text (insert_key (λ k l. pointwise nat_eq (text k) (text l)) old k) ≡ map text old ++ name ∷ []
+  added name old k e none =
+      let absent = found_by_text (text k) old ∙ (ap (λ n. list_any (λ other. pointwise nat_eq other n) (map text old)) e ∙ none) in
+      ap (λ b. map text (if b then old else old ++ k ∷ [])) absent ∙ (append-map old k ∙ ap (λ n. map text old ++ n ∷ []) e)

@@ -6,7 +6,9 @@
 #![tactic(auto)]
 
 pub mod name_set;
+pub mod name_stack;
 #[cfg(test)]
 mod tests;
 
 pub use name_set::NameSet;
+pub use name_stack::NameStack;

@@ -1,6 +1,6 @@
 //! Names in the order in which they came, each once.
 
-ghost use Rattle.std.specs.Prelude.{◌≡◌, ◌↔◌, IsTrue, ℕ, [], length, position, nat_eq, take, slice_get, Some, IfSome, OnOk, OnErr};
+ghost use Rattle.std.specs.Prelude.{◌≡◌, ℕ, [], ◌∷◌, ◌++◌, false, length, position, nat_eq, take, slice_get, Some, is_some, IfSome, OnOk, OnErr};
 ghost use Rattle.std.specs.Cmp.Lexicographic.{pointwise};
 ghost use Rattle.std.specs.List.{list_any};
 ghost use Rattle.name_tables.specs.Names.{with_name};
@@ -44,16 +44,10 @@ impl NameSet {
         self.names.len()
     }
 
-    /// Whether there is no name.
-    pub fn is_empty(&self) -> bool
-        ensures { IsTrue result ↔ (self.now ≡ []) }
-    {
-        self.names.is_empty()
-    }
-
     /// The place of the name, counted from 0, if it is there.
     pub fn place_of(&self, name: &[u8]) -> Option<usize>
         ensures value { result ≡ position (λ other. pointwise nat_eq name.now other) self.now }
+        ensures there { is_some result ≡ list_any (λ other. pointwise nat_eq other name.now) self.now }
         ensures found { IfSome result (λ place. slice_get self.now place ≡ Some name.now) }
         ensures only { IfSome result (λ place. (k : ℕ) → slice_get self.now k ≡ Some name.now → k ≡ place) }
     {
@@ -72,9 +66,19 @@ impl NameSet {
         ensures ok { OnOk result (self.new ≡ with_name self.old name.now) }
         ensures err { OnErr result (self.new ≡ self.old) }
     {
-        if !self.names.contains(name) {
-            self.names.insert(Vec::from_slice(alloc, name)?)?;
+        if self.contains(name) {
+            return Ok(());
         }
+        self.add(alloc, name)
+    }
+
+    /// Puts a name last that isn't there yet. After want of memory the set is as before.
+    pub(crate) fn add(&mut self, alloc: Global, name: &[u8]) -> Result<(), AllocError>
+        requires { list_any (λ other. pointwise nat_eq other name.now) self.old ≡ false }
+        ensures ok { OnOk result (self.new ≡ self.old ++ name.now ∷ []) }
+        ensures err { OnErr result (self.new ≡ self.old) }
+    {
+        self.names.insert(Vec::from_slice(alloc, name)?)?;
         Ok(())
     }
 

@@ -1,10 +1,13 @@
 -- Binders as the definition reads them, one in turn.
-use Rattle.std.proofs.Common.{◌≡◌, ℕ, ◌+◌, List, [], ◌∷◌, ◌++◌, Result, Ok, Err, refl, ap, sym, ◌∙◌, append_assoc, append-nil}
+use Rattle.std.proofs.Common.{◌≡◌, ℕ, ◌+◌, Bool, true, false, subst, List, [], ◌∷◌, ◌++◌, Result, Ok, Err, refl, ap, sym, ◌∙◌, append_assoc, append-nil}
 use Rattle.mbqi_values.specs.declared.fault.FaultKind.{FaultKind}
 use Rattle.mbqi_terms.specs.declared.sort.Sort.{Sort}
 use Rattle.sexpr_text.specs.declared.tree.Sexpr.{Sexpr}
 use Rattle.smtlib_terms.specs.declared.names.Parameter.{Parameter}
 use Rattle.smtlib_terms.specs.declared.names.Variable.{Variable}
+use Rattle.mbqi_values.specs.declared.fault.FaultKind.TheVariants.{ReservedName, Twice}
+use Rattle.std.specs.Prelude.{if◌then◌else◌}
+use Rattle.smtlib_terms.specs.Words.{is_one_of, is_reserved}
 use Rattle.mbqi_values.specs.declared.fault.ReadError.{ReadError}
 use Rattle.mbqi_values.specs.declared.fault.ReadError.TheVariants.{Refused, Memory}
 use Rattle.smtlib_terms.specs.Answers.{IsFault}
@@ -49,6 +52,38 @@ binders_next t ts sorts place seen =
     three_steps (binder_sort t sorts) quantifiable (bindable (binder_name t) seen)
     (λ (s : Sort) (name : List ℕ). let v : Variable = record { name = name; binder = record { place = place; sort = s } } in v)
     (λ (v : Variable). binders_of ts sorts (place + 1) (seen ++ v.name ∷ []) >>= (λ vs. Ok (v ∷ vs)))
+
+-- a name that was bound is new in its list
+bindable_new : (name : List ℕ) (seen : List (List ℕ)) (n : List ℕ) → bindable name seen ≡ Ok n → is_one_of seen n ≡ false
+bindable_new name seen n bound = go (is_reserved name) (is_one_of seen name) refl bound
+  where
+    go : (reserved there : Bool) → is_one_of seen name ≡ there → (if reserved then Err ReservedName else (if there then Err Twice else Ok name)) ≡ Ok n → is_one_of seen n ≡ false
+    go true there e made = cc
+    go false true e made = cc
+    go false false e made = let same : name ≡ n = cc in subst (λ x. is_one_of seen x ≡ false) same e
+
+made_of : {A B : Type 0} (r : Result A FaultKind) (q : Result (List ℕ) FaultKind) (make : A → List ℕ → B) (b : B)
+    → r >>= (λ a. q >>= (λ n. Ok (make a n))) ≡ Ok b → (n : List ℕ) × (a : A) × (q ≡ Ok n) × (make a n ≡ b)
+made_of (Ok a) (Ok n) make b made = let same : make a n ≡ b = cc in (n, a, refl, same)
+made_of (Ok a) (Err kind) make b made = cc
+made_of (Err kind) q make b made = cc
+
+pub parameter_new : (t : Sexpr) (sorts seen : List (List ℕ)) (p : Parameter) → parameter_read t sorts seen ≡ Ok p → is_one_of seen p.name ≡ false
+unfolding parameter_read
+parameter_new t sorts seen p read =
+    let parts = made_of (binder_sort t sorts) (bindable (binder_name t) seen) (λ (s : Sort) (name : List ℕ). let p : Parameter = record { name = name; sort = s } in p) p read in
+    subst (λ (q : Parameter). is_one_of seen q.name ≡ false) parts.3 (bindable_new (binder_name t) seen parts.0 parts.2)
+
+variable_made : (r : Result Sort FaultKind) (place : ℕ) (name : List ℕ) (seen : List (List ℕ)) (v : Variable)
+    → r >>= (λ any. quantifiable any >>= (λ s. bindable name seen >>= (λ n. Ok (record { name = n; binder = record { place = place; sort = s } })))) ≡ Ok v → is_one_of seen v.name ≡ false
+variable_made (Err kind) place name seen v made = cc
+variable_made (Ok any) place name seen v made =
+    let parts = made_of (quantifiable any) (bindable name seen) (λ (s : Sort) (n : List ℕ). let v : Variable = record { name = n; binder = record { place = place; sort = s } } in v) v made in
+    subst (λ (w : Variable). is_one_of seen w.name ≡ false) parts.3 (bindable_new name seen parts.0 parts.2)
+
+pub variable_new : (t : Sexpr) (sorts : List (List ℕ)) (place : ℕ) (seen : List (List ℕ)) (v : Variable) → variable_read t sorts place seen ≡ Ok v → is_one_of seen v.name ≡ false
+unfolding variable_read
+variable_new t sorts place seen v read = variable_made (binder_sort t sorts) place (binder_name t) seen v read
 
 pub parameters_start : (ts : List Sexpr) (sorts : List (List ℕ)) → parameters_behind [] ts sorts [] ≡ parameters_of ts sorts []
 unfolding parameters_behind

@@ -1,13 +1,14 @@
 -- Names found in tables are the names that the definitions find.
-use Rattle.std.proofs.Common.{◌≡◌, ◌≢◌, ℕ, zero, suc, ◌+◌, ◌<◌, Bool, true, false, ◌||◌, List, [], ◌∷◌, ◌++◌, length, map, take, Option, None, Some, position, slice_get, refl, sym, ap, subst, ◌∙◌, cond, ◌≤◌, arith}
+use Rattle.std.proofs.Common.{◌≡◌, ◌≢◌, ℕ, zero, suc, ◌+◌, ◌<◌, Bool, true, false, ◌||◌, List, [], ◌∷◌, ◌++◌, map, take, None, Some, position, slice_get, refl, sym, ap, subst, ◌∙◌, cond, true≢false, ◌≤◌, arith}
 use Rattle.std.specs.Prelude.{if◌then◌else◌}
 use Rattle.std.specs.List.{fold, list_any, position_from}
 use Rattle.std.proofs.lemmas.Slice.Eq.{bytes_eq-Decides}
 use Rattle.std.proofs.lemmas.Iterator.Adapters.{position_from-zero}
+use Rattle.std.proofs.lemmas.List.{map-append}
 use Rattle.name_tables.specs.Names.{with_name}
 use Rattle.mbqi_terms.specs.declared.script.Function.{Function}
 use Rattle.smtlib_terms.specs.declared.names.Macro.{Macro}
-use Rattle.smtlib_terms.specs.Declaring.{Declarations, names_before, reader_of, signature_of, with_macro}
+use Rattle.smtlib_terms.specs.Declaring.{Declarations, is_function, names_before, reader_of, signature_of, with_macro}
 use Rattle.smtlib_terms.specs.Names.{Signature, function_named, macro_named}
 use Rattle.smtlib_terms.specs.Words.{is_one_of, is_text}
 
@@ -52,12 +53,14 @@ other_text a b differ = go (is_text a b) refl
 
 nowhere_from : (name : List ℕ) (at : ℕ) (names : List (List ℕ)) → position_from (is_text name) at names ≡ None → IsNowhere name names
 nowhere_from name at [] none k x there = cc
-nowhere_from name at (y ∷ ys) none k x there = go (is_text name y) refl none k there
+nowhere_from name at (y ∷ ys) none k x there = go (is_text name y) refl none (λ found later in_rest. nowhere_from name (at + 1) ys found later x in_rest) k there
   where
-    go : (t : Bool) → is_text name y ≡ t → cond t (Some at) (position_from (is_text name) (at + 1) ys) ≡ None → (k : ℕ) → slice_get (y ∷ ys) k ≡ Some x → is_text name x ≡ false
-    go true e found k there = cc
-    go false e found zero there = let same : y ≡ x = cc in subst (λ z. is_text name z ≡ false) same e
-    go false e found (suc k) there = nowhere_from name (at + 1) ys found k x there
+    go : (t : Bool) → is_text name y ≡ t → cond t (Some at) (position_from (is_text name) (at + 1) ys) ≡ None
+        → (position_from (is_text name) (at + 1) ys ≡ None → (k : ℕ) → slice_get ys k ≡ Some x → is_text name x ≡ false)
+        → (k : ℕ) → slice_get (y ∷ ys) k ≡ Some x → is_text name x ≡ false
+    go true e found rest k there = cc
+    go false e found rest zero there = let same : y ≡ x = cc in subst (λ z. is_text name z ≡ false) same e
+    go false e found rest (suc k) there = rest found k there
 
 pub nowhere : (name : List ℕ) (names : List (List ℕ)) → position (is_text name) names ≡ None → IsNowhere name names
 nowhere name names none = nowhere_from name 0 names (sym (position_from-zero (is_text name) names) ∙ none)
@@ -76,7 +79,7 @@ function_at name at (g ∷ gs) zero f there named only =
     let same : g ≡ f = cc in
     let own : is_text name g.name ≡ true = subst (λ (h : Function). is_text name h.name ≡ true) (sym same) (subst (λ n. is_text name n ≡ true) named (own_text name)) in
     let number : at ≡ at + 0 = omega arith in
-    let found : Some (at, g) ≡ Some (at + 0, f) = ap (λ (h : Function). Some (at, h)) same ∙ ap (λ (n : ℕ). Some (n, f)) number in
+    let found : Some (at, g) ≡ Some (at + 0, f) = (λ j. Some (number j, same j)) in
     rw own found
 function_at name at (g ∷ gs) (suc i) f there named only =
     let other : is_text name g.name ≡ false = other_text name g.name (λ same. let first : 0 ≡ suc i = only 0 (ap Some (sym same)) in absurd (omega arith)) in
@@ -126,24 +129,25 @@ front_of_front xs zero (suc i) within = absurd (omega arith)
 front_of_front [] (suc n) (suc i) within = refl
 front_of_front (x ∷ xs) (suc n) (suc i) within = ap (λ ys. x ∷ ys) (front_of_front xs n i (omega arith))
 
-front_names : (n : ℕ) (ms : List Macro) → map (λ (m : Macro). m.name) (take n ms) ≡ take n (map (λ (m : Macro). m.name) ms)
-front_names zero ms = refl
-front_names (suc n) [] = refl
-front_names (suc n) (m ∷ ms) = ap (λ ys. m.name ∷ ys) (front_names n ms)
+-- the names of the first items of a table
+front_map : {A : Type 0} (h : A → List ℕ) (n : ℕ) (xs : List A) → take n (map h xs) ≡ map h (take n xs)
+front_map h zero xs = refl
+front_map h (suc n) [] = refl
+front_map h (suc n) (x ∷ xs) = ap (λ ys. h x ∷ ys) (front_map h n xs)
 
 -- the macro of a name among the first so many
 pub macro_nowhere : (d : Declarations) (name : List ℕ) (first : ℕ) → IsNowhere name (map (λ (m : Macro). m.name) d.macros)
     → macro_named name (names_before d first).macros ≡ None
 macro_nowhere d name first none =
     macro_behind name (signature_of d []) (take first d.macros)
-    (λ k x e. none k x (front_get (map (λ (m : Macro). m.name) d.macros) first k x (subst (λ ys. slice_get ys k ≡ Some x) (front_names first d.macros) e)))
+    (λ k x e. none k x (front_get (map (λ (m : Macro). m.name) d.macros) first k x (subst (λ ys. slice_get ys k ≡ Some x) (sym (front_map (λ (m : Macro). m.name) first d.macros)) e)))
 
 pub macro_past : (d : Declarations) (name : List ℕ) (first i : ℕ) → IsOnlyAt name (map (λ (m : Macro). m.name) d.macros) i → first ≤ i
     → macro_named name (names_before d first).macros ≡ None
 macro_past d name first i only past =
     macro_behind name (signature_of d []) (take first d.macros)
     (λ k x e. other_text name x (λ named.
-    let in_front : slice_get (take first (map (λ (m : Macro). m.name) d.macros)) k ≡ Some x = subst (λ ys. slice_get ys k ≡ Some x) (front_names first d.macros) e in
+    let in_front : slice_get (take first (map (λ (m : Macro). m.name) d.macros)) k ≡ Some x = subst (λ ys. slice_get ys k ≡ Some x) (sym (front_map (λ (m : Macro). m.name) first d.macros)) e in
     let at : k ≡ i = only k (front_get (map (λ (m : Macro). m.name) d.macros) first k x in_front ∙ ap Some (sym named)) in
     let within : k < first = front_is_within (map (λ (m : Macro). m.name) d.macros) first k x in_front in
     absurd (omega arith)))
@@ -159,7 +163,78 @@ pub macro_before : (d : Declarations) (name : List ℕ) (first i : ℕ) (m : Mac
     → macro_named name (names_before d first).macros ≡ Some (reader_of (names_before d i) m)
 macro_before d name first i m there named only within =
     let front_only : IsOnlyAt name (map (λ (m : Macro). m.name) (take first d.macros)) i =
-    (λ k e. only k (front_get (map (λ (m : Macro). m.name) d.macros) first k name (subst (λ ys. slice_get ys k ≡ Some name) (front_names first d.macros) e))) in
+    (λ k e. only k (front_get (map (λ (m : Macro). m.name) d.macros) first k name (subst (λ ys. slice_get ys k ≡ Some name) (sym (front_map (λ (m : Macro). m.name) first d.macros)) e))) in
     let found = macro_at name (signature_of d []) (take first d.macros) i m (front_within d.macros first i m there within) named front_only in
     let at_most : i ≤ first = omega arith in
     found ∙ ap (λ (ms : List Macro). Some (reader_of (signature_of d ms) m)) (front_of_front d.macros first i at_most)
+
+-- an item at a place of a table has its name there
+unfound_item : {A : Type 0} (h : A → List ℕ) (xs : List A) (i : ℕ) (name : List ℕ) → slice_get xs i ≡ None → slice_get (map h xs) i ≡ Some name → ⊥
+unfound_item h [] i name none there = cc
+unfound_item h (x ∷ xs) zero name none there = cc
+unfound_item h (x ∷ xs) (suc i) name none there = unfound_item h xs i name none there
+
+named_item : {A : Type 0} (h : A → List ℕ) (xs : List A) (i : ℕ) (x : A) (name : List ℕ) → slice_get xs i ≡ Some x → slice_get (map h xs) i ≡ Some name → name ≡ h x
+named_item h [] i x name at there = cc
+named_item h (y ∷ ys) zero x name at there = let same : y ≡ x = cc in let named : h y ≡ name = cc in sym named ∙ ap h same
+named_item h (y ∷ ys) (suc i) x name at there = named_item h ys i x name at there
+
+pub no_item : {A : Type 0} (h : A → List ℕ) (xs : List A) (names : List (List ℕ)) (i : ℕ) (name : List ℕ) → names ≡ map h xs → None ≡ slice_get xs i → slice_get names i ≡ Some name → ⊥
+no_item h xs names i name are none there = unfound_item h xs i name (sym none) (subst (λ ns. slice_get ns i ≡ Some name) are there)
+
+-- the look-up of a function in its table
+pub function_missing : (name : List ℕ) (fs : List Function) (names : List (List ℕ)) → names ≡ map (λ (f : Function). f.name) fs → None ≡ position (is_text name) names → function_named name 0 fs ≡ None
+function_missing name fs names are none = function_nowhere name 0 fs (subst (IsNowhere name) are (nowhere name names (sym none)))
+
+pub function_found : (name : List ℕ) (fs : List Function) (names : List (List ℕ)) (i : ℕ) (f : Function)
+    → names ≡ map (λ (f : Function). f.name) fs → Some f ≡ slice_get fs i → slice_get names i ≡ Some name → IsOnlyAt name names i → function_named name 0 fs ≡ Some (i, f)
+function_found name fs names i f are item there only =
+    let named : name ≡ f.name = named_item (λ (f : Function). f.name) fs i f name (sym item) (subst (λ ns. slice_get ns i ≡ Some name) are there) in
+    let found = function_at name 0 fs i f (sym item) named (subst (λ ns. IsOnlyAt name ns i) are only) in
+    let number : 0 + i ≡ i = omega arith in
+    found ∙ ap (λ (n : ℕ). Some (n, f)) number
+
+-- the look-up of a macro in its table
+pub macro_missing : (d : Declarations) (name : List ℕ) (first : ℕ) (names : List (List ℕ)) → names ≡ map (λ (m : Macro). m.name) d.macros → None ≡ position (is_text name) names
+    → macro_named name (names_before d first).macros ≡ None
+macro_missing d name first names are none = macro_nowhere d name first (subst (IsNowhere name) are (nowhere name names (sym none)))
+
+pub macro_late : (d : Declarations) (name : List ℕ) (first i : ℕ) (names : List (List ℕ)) → names ≡ map (λ (m : Macro). m.name) d.macros → IsOnlyAt name names i → first ≤ i
+    → macro_named name (names_before d first).macros ≡ None
+macro_late d name first i names are only late = macro_past d name first i (subst (λ ns. IsOnlyAt name ns i) are only) late
+
+pub macro_found : (d : Declarations) (name : List ℕ) (first i : ℕ) (names : List (List ℕ)) (m : Macro)
+    → names ≡ map (λ (m : Macro). m.name) d.macros → Some m ≡ slice_get d.macros i → slice_get names i ≡ Some name → IsOnlyAt name names i → i < first
+    → macro_named name (names_before d first).macros ≡ Some (reader_of (names_before d i) m)
+macro_found d name first i names m are item there only within =
+    let named : name ≡ m.name = named_item (λ (m : Macro). m.name) d.macros i m name (sym item) (subst (λ ns. slice_get ns i ≡ Some name) are there) in
+    macro_before d name first i m (sym item) named (subst (λ ns. IsOnlyAt name ns i) are only) within
+
+-- one of two that are both false
+first_false : (a b : Bool) → (a || b) ≡ false → a ≡ false
+first_false true b e = e
+first_false false b e = refl
+
+second_false : (a b : Bool) → (a || b) ≡ false → b ≡ false
+second_false true b e = absurd (true≢false e)
+second_false false b e = e
+
+-- the names of a table with one more item, of a new name
+pub functions_with : (d : Declarations) (names : List (List ℕ)) (name : List ℕ) (f : Function) → names ≡ map (λ (f : Function). f.name) d.functions
+    → f.name ≡ name → is_function d name ≡ false → with_name names name ≡ map (λ (f : Function). f.name) (d.functions ++ f ∷ [])
+functions_with d names name f are named new =
+    let other : is_one_of (map (λ (f : Function). f.name) d.functions) name ≡ false =
+    sym (any_function d.functions name) ∙ first_false _ _ new in
+    new_name names name (ap (λ ns. is_one_of ns name) are ∙ other)
+    ∙ ((λ j. are j ++ sym named j ∷ []) ∙ sym (map-append (λ (f : Function). f.name) d.functions (f ∷ [])))
+
+pub macros_with : (d : Declarations) (names : List (List ℕ)) (m : Macro) → names ≡ map (λ (m : Macro). m.name) d.macros
+    → is_function d m.name ≡ false → with_name names m.name ≡ map (λ (m : Macro). m.name) (d.macros ++ m ∷ [])
+macros_with d names m are new =
+    let other : is_one_of (map (λ (m : Macro). m.name) d.macros) m.name ≡ false =
+    sym (any_macro d.macros m.name) ∙ second_false _ _ new in
+    new_name names m.name (ap (λ ns. is_one_of ns m.name) are ∙ other)
+    ∙ (ap (λ ns. ns ++ m.name ∷ []) are ∙ sym (map-append (λ (m : Macro). m.name) d.macros (m ∷ [])))
+
+pub named_front : {A : Type 0} (h : A → List ℕ) (n : ℕ) (xs : List A) (names : List (List ℕ)) → names ≡ map h xs → take n names ≡ map h (take n xs)
+named_front h n xs names are = ap (take n) are ∙ front_map h n xs

@@ -1,9 +1,10 @@
 //! What was declared and defined.
 
-ghost use Rattle.std.specs.Prelude.{◌≡◌, [], length, false, None, Some, MatchOption, OnOk, OnErr};
-ghost use Rattle.std.specs.List.{list_all};
+ghost use Rattle.std.specs.Prelude.{◌≡◌, [], ◌∷◌, length, false, None, Some, MatchOption, OnOk, OnErr};
+ghost use Rattle.std.specs.List.{list_all, list_any};
 ghost use Rattle.smtlib_terms.specs.Names.{function_named, is_array, macro_named};
 ghost use Rattle.smtlib_terms.specs.Answers.{Answers, Declares};
+ghost use Rattle.smtlib_terms.specs.Words.{is_one_of};
 ghost use Rattle.smtlib_terms.specs.Declaring.{function_declared, is_first_order, is_function, is_supported, names_before, reader_of, released, sort_declared, sort_read, with_definition, with_function};
 
 use crate::sorts::sort_of_tree;
@@ -147,11 +148,25 @@ impl Names {
         }
     }
 
+    /// Whether a declared function has the name.
+    fn is_declared(&self, name: &[u8]) -> bool
+        ensures { result ≡ list_any (λ f. is_one_of (f.name ∷ []) name.now) self.now.functions }
+    {
+        self.functions.names.contains(name)
+    }
+
+    /// Whether a macro has the name.
+    fn is_defined(&self, name: &[u8]) -> bool
+        ensures { result ≡ list_any (λ m. is_one_of (m.name ∷ []) name.now) self.now.macros }
+    {
+        self.macros.names.contains(name)
+    }
+
     /// Whether a function or a macro has the name.
     pub fn is_function(&self, name: &[u8]) -> bool
         ensures { result ≡ is_function self.now name.now }
     {
-        self.functions.names.contains(name) || self.macros.names.contains(name)
+        self.is_declared(name) || self.is_defined(name)
     }
 
     /// Declares a sort. Refused: ReservedName, or Twice where a sort has the name. After a refusal or want of memory the
@@ -213,7 +228,8 @@ impl Names {
         ensures ok { OnOk result (self.new ≡ with_function self.old function) }
         ensures err { OnErr result (self.new ≡ self.old) }
     {
-        self.functions.push(alloc, name, function)
+        self.functions.push(alloc, name, function)?;
+        Ok(())
     }
 
     /// Adds a macro, whose name no function and no macro has. After want of memory the names are as before.
@@ -223,7 +239,8 @@ impl Names {
         ensures err { OnErr result (self.new ≡ self.old) }
     {
         let name = copy_text(alloc, &definition.name)?;
-        self.macros.push(alloc, name.as_slice(), definition)
+        self.macros.push(alloc, name.as_slice(), definition)?;
+        Ok(())
     }
 
     /// How many names of each kind there are.
