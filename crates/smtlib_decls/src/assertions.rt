@@ -9,7 +9,7 @@ use crate::progress::Progress;
 use mbqi_terms::{Assertion, Formula};
 use mbqi_values::{FaultKind, ReadError, Text};
 use sexpr_text::Sexpr;
-use smtlib_terms::sorts::refused;
+use smtlib_terms::refused;
 use std::alloc::Global;
 use term_reader::read_formula;
 

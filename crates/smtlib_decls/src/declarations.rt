@@ -10,10 +10,9 @@ use crate::progress::Progress;
 use mbqi_terms::{Sort, Sorts};
 use mbqi_values::{FaultKind, ReadError};
 use sexpr_text::Sexpr;
-use smtlib_terms::binders::{is_some_symbol, text_of, trees_in};
-use smtlib_terms::declaring::read_sort;
-use smtlib_terms::names::Names;
-use smtlib_terms::sorts::refused;
+use smtlib_names::names::{Names, read_sort};
+use smtlib_names::trees::{is_some_symbol, text_of, trees_in};
+use smtlib_terms::refused;
 use std::alloc::Global;
 use term_reader::{check_definition, define_macro};
 

@@ -8,8 +8,8 @@ ghost use Rattle.smtlib_decls.specs.Labels.{attributes_in, first_symbol, is_labe
 use mbqi_terms::Assertion;
 use mbqi_values::{FaultKind, ReadError, Text};
 use sexpr_text::Sexpr;
-use smtlib_terms::binders::{is_some_symbol, text_of, trees_in};
-use smtlib_terms::sorts::{is_symbol, refused};
+use smtlib_names::trees::{is_some_symbol, is_symbol, text_of, trees_in};
+use smtlib_terms::refused;
 use std::alloc::Global;
 
 /// Whether a tree is the keyword `:named`.

@@ -4,7 +4,7 @@ ghost use Rattle.std.specs.Prelude.{◌≡◌};
 ghost use Rattle.smtlib_decls.specs.Scripts.{nothing, script_of};
 
 use mbqi_terms::{Assertions, Script};
-use smtlib_terms::names::Names;
+use smtlib_names::names::Names;
 use std::alloc::Global;
 
 /// What the commands so far have said.
@@ -36,11 +36,7 @@ impl Progress {
             assertions,
             asks,
         } = self;
-        let Names {
-            sorts,
-            functions,
-            ..
-        } = names;
+        let (sorts, functions) = names.into_declared();
         Script {
             sorts,
             functions,

@@ -14,8 +14,8 @@ use crate::progress::Progress;
 use mbqi_terms::Script;
 use mbqi_values::{FaultKind, ReadError, Refusal};
 use sexpr_text::{Form, Forms, Sexpr, read_forms};
-use smtlib_terms::binders::{is_some_symbol, text_of, trees_in};
-use smtlib_terms::sorts::{is_symbol, refused};
+use smtlib_names::trees::{is_some_symbol, is_symbol, text_of, trees_in};
+use smtlib_terms::refused;
 use std::alloc::Global;
 
 /// Whether the trees in a list are those of `(exit)`.

@@ -1,9 +1,10 @@
 //! Binders and parameters, as trees spell them.
 
-ghost use Rattle.std.specs.Prelude.{◌≡◌, ◌+◌, [], IfOk};
+ghost use Rattle.std.specs.Prelude.{◌≡◌, ◌+◌, [], false, IfOk};
 ghost use Rattle.smtlib_terms.specs.Answers.{Answers};
 ghost use Rattle.smtlib_terms.specs.Reading.{bindable, binder_name, binder_sort, binders_of, quantifiable};
 ghost use Rattle.smtlib_terms.specs.Declaring.{parameters_of};
+ghost use Rattle.smtlib_terms.specs.Words.{is_one_of};
 ghost use Rattle.smtlib_names.specs.Binders.{parameter_read, variable_read};
 
 use crate::sorts::sort_of_tree;
@@ -29,7 +30,8 @@ fn binder_sort(sorts: &NameSet, tree: &Sexpr) -> Result<Sort, ReadError>
 
 /// A name that may be bound: refused where it is reserved or was bound before in one list.
 pub fn bindable(alloc: Global, name: &[u8], seen: &NameSet) -> Result<Text, ReadError>
-    ensures { Answers result (bindable name.now seen.now) }
+    ensures meant { Answers result (bindable name.now seen.now) }
+    ensures new { IfOk result (λ bound. is_one_of seen.now bound ≡ false) }
 {
     if is_reserved(name) {
         return Err(refused(FaultKind::ReservedName));

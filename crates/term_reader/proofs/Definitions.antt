@@ -6,7 +6,6 @@ use Rattle.mbqi_terms.specs.declared.sort.Sort.{Sort}
 use Rattle.sexpr_text.specs.declared.tree.Sexpr.{Sexpr}
 use Rattle.smtlib_terms.specs.declared.meaning.Meaning.{Meaning}
 use Rattle.smtlib_terms.specs.declared.names.Macro.{Macro}
-use Rattle.smtlib_terms.specs.declared.names.Names.{Names}
 use Rattle.smtlib_terms.specs.declared.names.Parameter.{Parameter}
 use Rattle.smtlib_terms.specs.Declaring.{Declarations, declarable, defined, definition_of, definition_read, is_function, macro_defined, parameters_of, with_definition}
 use Rattle.smtlib_terms.specs.Meaning.{sort_of}

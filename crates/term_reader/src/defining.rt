@@ -1,10 +1,10 @@
 //! Formulas and macros, by the names that were declared and defined.
 
-ghost use Rattle.std.specs.Prelude.{◌≡◌, [], Ok, IfErr};
+ghost use Rattle.std.specs.Prelude.{◌≡◌, [], false, Ok, IfErr, OnOk};
 ghost use Rattle.smtlib_terms.specs.Answers.{Answers, Declares, IsFault};
 ghost use Rattle.smtlib_terms.specs.Declaring.{arguments, declarable, definition_read, formula_read, is_function, macro_defined, names_of, opaque_from, reader_of};
 ghost use Rattle.smtlib_terms.specs.Reading.{is_list, meant_by, trees_in};
-ghost use Rattle.term_operators.specs.Measured.{Means, meaning_of};
+ghost use Rattle.operator_arguments.specs.Measured.{Means, meaning_of};
 ghost use Rattle.term_reader.specs.Defining.{body_meant, definition_checked, definition_parts, is_definition, macro_described, macro_read, may_define};
 
 use crate::macros::{arguments, opaque_from};
@@ -12,23 +12,27 @@ use crate::reading::read_meaning;
 use crate::scope::Scope;
 use mbqi_terms::{Formula, Sort};
 use mbqi_values::{FaultKind, ReadError, Sequence};
+use operator_arguments::{MeasuredMeaning, is_sort};
 use sexpr_text::{Sexpr, copy_tree};
-use smtlib_terms::binders::{each_is_binder, is_some_symbol, parameters, text_of, trees_in};
-use smtlib_terms::names::{Macro, Names, Parameters};
-use smtlib_terms::sorts::{is_symbol, refused, sort_of_tree};
+use smtlib_names::binders::parameters;
+use smtlib_names::names::Names;
+use smtlib_names::sorts::sort_of_tree;
+use smtlib_names::trees::{each_is_binder, is_some_symbol, is_symbol, text_of, trees_in};
+use smtlib_terms::names::Macro;
+use smtlib_terms::refused;
 use smtlib_terms::word::is_reserved;
 use std::alloc::Global;
-use term_operators::{MeasuredMeaning, is_sort};
 
 /// How many calls may be nested while a tree is read: as many as there is room for.
 const LEVELS: usize = usize::MAX;
 
 /// What a tree means where nothing is bound.
+#[tactic(auto, using(crate::proofs::Ends::all_macros))]
 fn closed_meaning(alloc: Global, names: &Names, tree: &Sexpr) -> Result<MeasuredMeaning, ReadError>
     ensures { Means meaning_of result (meant_by tree.now (names_of names.now) [] 0) }
 {
     let mut scope = Scope::new(alloc);
-    let macros = names.macros.as_slice();
+    let macros = names.macro_count();
     read_meaning(alloc, names, macros, &mut scope, tree, 0, LEVELS)
 }
 
@@ -45,6 +49,7 @@ pub fn read_formula(alloc: Global, names: &Names, tree: &Sexpr) -> Result<Formul
 
 /// What the body of a macro means, with opaque arguments: as if each parameter were a constant of its sort, numbered
 /// behind the declared functions.
+#[tactic(auto, using(crate::proofs::Ends::all_macros))]
 fn body_meaning(
     alloc: Global,
     names: &Names,
@@ -53,10 +58,10 @@ fn body_meaning(
     ensures { Means meaning_of result (body_meant names.now definition.now) }
 {
     let bound = definition.parameters.as_slice();
-    let args = opaque_from(alloc, names.functions.len(), bound)?;
+    let args = opaque_from(alloc, names.functions().len(), bound)?;
     let mut scope = Scope::new(alloc);
-    scope.enter(arguments(alloc, bound, args, 0)?)?;
-    let macros = names.macros.as_slice();
+    scope.enter(alloc, arguments(alloc, bound, args, 0)?)?;
+    let macros = names.macro_count();
     read_meaning(
         alloc,
         names,
@@ -71,7 +76,8 @@ fn body_meaning(
 /// Whether the name and the sort of a macro let it be defined. Refused: ReservedName, Twice where a function or a macro
 /// has the name, WrongSort where the body has another sort than the result.
 fn may_define(names: &Names, definition: &Macro, body: Sort) -> Result<(), ReadError>
-    ensures { Answers result (may_define names.now definition.now body) }
+    ensures meant { Answers result (may_define names.now definition.now body) }
+    ensures new { OnOk result (is_function names.now definition.now.name ≡ false) }
 {
     let name = definition.name.as_slice();
     if is_reserved(name) {
@@ -88,7 +94,8 @@ fn may_define(names: &Names, definition: &Macro, body: Sort) -> Result<(), ReadE
 
 /// Whether a macro may be defined: its body has a meaning, and its name and sort let it.
 fn check_macro(alloc: Global, names: &Names, definition: &Macro) -> Result<(), ReadError>
-    ensures { Answers result (definition_checked names.now definition.now) }
+    ensures meant { Answers result (definition_checked names.now definition.now) }
+    ensures new { OnOk result (is_function names.now definition.now.name ≡ false) }
 {
     let body = body_meaning(alloc, names, definition)?;
     may_define(names, definition, body.sort())
@@ -121,7 +128,7 @@ fn described(
 ) -> Result<Macro, ReadError>
     ensures { Answers result (macro_described names.now name.now bound.now sort.now body.now) }
 {
-    let sorts = names.sorts.as_slice();
+    let sorts = names.sorts();
     let parameters = parameters(alloc, sorts, bound)?;
     let result_sort = sort_of_tree(sorts, sort)?;
     Ok(Macro {
@@ -176,6 +183,6 @@ pub fn define_macro(alloc: Global, names: &mut Names, tree: &Sexpr) -> Result<()
 {
     let definition = macro_of_tree(alloc, names, tree)?;
     check_macro(alloc, names, &definition)?;
-    names.macros.push(definition)?;
+    names.add_macro(alloc, definition)?;
     Ok(())
 }

@@ -1,39 +1,17 @@
-//! Macros by their names, and their arguments.
+//! The arguments of macros.
 
-ghost use Rattle.std.specs.Prelude.{◌≡◌, ◌+◌, None, Some, IfOk, MatchOption};
-ghost use Rattle.smtlib_terms.specs.Declaring.{arguments, opaque_from, reader_of, sorts_of};
-ghost use Rattle.smtlib_terms.specs.Names.{macro_named};
-ghost use Rattle.term_operators.specs.Measured.{meanings_of};
-ghost use Rattle.term_reader.specs.Scopes.{bindings_of, signature_of};
+ghost use Rattle.std.specs.Prelude.{◌≡◌, ◌+◌, IfOk};
+ghost use Rattle.smtlib_terms.specs.Declaring.{arguments, opaque_from, sorts_of};
+ghost use Rattle.operator_arguments.specs.Measured.{meanings_of};
+ghost use Rattle.term_reader.specs.Scopes.{bindings_of};
 
 use crate::scope::{Binding, Bindings, Bound};
+use array_operators::application;
 use mbqi_terms::{Sorts, copy_text};
 use mbqi_values::Sequence;
-use smtlib_terms::names::{Macro, Names, Parameter};
+use operator_arguments::{Meanings, Queue};
+use smtlib_terms::names::Parameter;
 use std::alloc::{AllocError, Global};
-use term_operators::{Meanings, Queue, application};
-
-/// A macro, and those that its body may apply: the macros before it.
-#[derive(Clone, Copy)]
-pub struct Found<'a> {
-    pub before: &'a [Macro],
-    pub definition: &'a Macro,
-}
-
-/// The macro of a name.
-#[tactic(auto, using(crate::proofs::Ends::macro_laws))]
-pub fn macro_named<'a>(names: &Names, macros: &'a [Macro], name: &[u8]) -> Option<Found<'a>>
-    ensures { MatchOption result (macro_named name.now (signature_of names.now macros.now).macros ≡ None) (λ found. macro_named name.now (signature_of names.now macros.now).macros ≡ Some (reader_of (signature_of names.now found.before.now) found.definition.now)) }
-{
-    let mut rest = macros;
-    while let Some((definition, before)) = rest.split_last() {
-        if name == definition.name.as_slice() {
-            return Some(Found { before, definition });
-        }
-        rest = before;
-    }
-    None
-}
 
 /// The sorts of parameters.
 #[tactic(auto, using(std::proofs::lemmas::Grind::common_steps))]

@@ -1,44 +1,62 @@
 //! What comes of arguments that were read.
 
 ghost use Rattle.std.specs.Prelude.{◌≡◌, IfOk, map};
-ghost use Rattle.smtlib_terms.specs.Applying.{declared_pointwise, bound_pointwise, mapped, pointwise_named};
-ghost use Rattle.smtlib_terms.specs.Names.{bound_to, macro_named};
+ghost use Rattle.smtlib_terms.specs.Declaring.{names_before};
+ghost use Rattle.smtlib_terms.specs.Applying.{function_applied, declared_pointwise, bound_pointwise, mapped, pointwise_named};
+ghost use Rattle.smtlib_terms.specs.Names.{bound_to, function_named, macro_named};
 ghost use Rattle.smtlib_terms.specs.Operators.{plainly};
 ghost use Rattle.smtlib_terms.specs.Reading.{quantified, quantified_meant, shallow_side};
-ghost use Rattle.term_operators.specs.Maps.{pointwise_of};
-ghost use Rattle.term_operators.specs.Measured.{Means, meaning_of, meanings_of, side_of};
+ghost use Rattle.array_operators.specs.Maps.{pointwise_of};
+ghost use Rattle.operator_arguments.specs.Measured.{Means, meaning_of, meanings_of, side_of};
 ghost use Rattle.term_reader.specs.Plans.{made};
-ghost use Rattle.term_reader.specs.Scopes.{signature_of};
 
-use crate::macros::macro_named;
 use crate::plan::Maker;
 use crate::scope::Scope;
+use array_operators::{
+    Pointwise, connective_map, constant, function_applied, function_map, mapped_by, negation_map,
+};
+use formula_operators::subtraction;
 use mbqi_terms::{Binders, MapOp};
 use mbqi_values::{FaultKind, ReadError, Sequence};
 use measured_terms::MeasuredFormula;
-use smtlib_terms::names::{Macro, Names, Variable};
-use smtlib_terms::sorts::refused;
+use operator_arguments::{Meanings, MeasuredMeaning, MeasuredSide};
+use smtlib_names::names::Names;
+use smtlib_terms::names::Variable;
+use smtlib_terms::refused;
 use smtlib_terms::word::{Word, is_reserved_word};
 use std::alloc::{AllocError, Global};
-use term_operators::{
-    Meanings, MeasuredMeaning, MeasuredSide, Pointwise, applied, connective_map, constant,
-    function_map, function_named, mapped_by, negation_map, subtraction,
-};
+use term_operators::applied;
+
+/// The declared function of a name, applied to arguments. Refused: UnknownName where no function has the name, WrongCount
+/// or WrongSort.
+pub fn function_by_name(
+    alloc: Global,
+    names: &Names,
+    name: &[u8],
+    args: Meanings,
+) -> Result<MeasuredMeaning, ReadError>
+    ensures { Means meaning_of result (function_applied (meanings_of args) (function_named name.now 0 names.now.functions)) }
+{
+    match names.function_named(name) {
+        Some((number, f)) => function_applied(alloc, number, f, args),
+        None => Err(refused(FaultKind::UnknownName)),
+    }
+}
 
 /// The declared function of a name, as that of a pointwise map. A macro is none.
 #[tactic(auto, using(crate::proofs::Ends::macro_laws))]
 fn declared_map(
     alloc: Global,
     names: &Names,
-    macros: &[Macro],
+    macros: usize,
     name: &[u8],
 ) -> Result<Pointwise, ReadError>
-    ensures { Means pointwise_of result (declared_pointwise (signature_of names.now macros.now) name.now (macro_named name.now (signature_of names.now macros.now).macros)) }
+    ensures { Means pointwise_of result (declared_pointwise (names_before names.now macros) name.now (macro_named name.now (names_before names.now macros).macros)) }
 {
-    if let Some(_found) = macro_named(names, macros, name) {
+    if let Some(_found) = names.macro_named(macros, name) {
         return Err(refused(FaultKind::Unsupported));
     }
-    let Some((number, f)) = function_named(names.functions.as_slice(), name) else {
+    let Some((number, f)) = names.function_named(name) else {
         return Err(refused(FaultKind::UnknownName));
     };
     Ok(function_map(alloc, number, f)?)
@@ -48,11 +66,11 @@ fn declared_map(
 fn unbound_map(
     alloc: Global,
     names: &Names,
-    macros: &[Macro],
+    macros: usize,
     scope: &Scope,
     name: &[u8],
 ) -> Result<Pointwise, ReadError>
-    ensures { Means pointwise_of result (bound_pointwise (signature_of names.now macros.now) name.now (bound_to name.now scope.now)) }
+    ensures { Means pointwise_of result (bound_pointwise (names_before names.now macros) name.now (bound_to name.now scope.now)) }
 {
     match scope.find(name) {
         Some(_bound) => Err(refused(FaultKind::Unsupported)),
@@ -64,12 +82,12 @@ fn unbound_map(
 fn pointwise_named(
     alloc: Global,
     names: &Names,
-    macros: &[Macro],
+    macros: usize,
     scope: &Scope,
     name: &[u8],
     args: &[MeasuredMeaning],
 ) -> Result<Pointwise, ReadError>
-    ensures { Means pointwise_of result (pointwise_named (signature_of names.now macros.now) scope.now name.now (meanings_of args.now)) }
+    ensures { Means pointwise_of result (pointwise_named (names_before names.now macros) scope.now name.now (meanings_of args.now)) }
 {
     if name == b"and".as_slice() {
         return Ok(connective_map(alloc, MapOp::And, args)?);
@@ -90,12 +108,12 @@ fn pointwise_named(
 fn mapped(
     alloc: Global,
     names: &Names,
-    macros: &[Macro],
+    macros: usize,
     scope: &Scope,
     name: &[u8],
     args: Meanings,
 ) -> Result<MeasuredMeaning, ReadError>
-    ensures { Means meaning_of result (mapped (signature_of names.now macros.now) scope.now name.now (meanings_of args)) }
+    ensures { Means meaning_of result (mapped (names_before names.now macros) scope.now name.now (meanings_of args)) }
 {
     let function = pointwise_named(alloc, names, macros, scope, name, args.as_slice())?;
     mapped_by(alloc, function, args)
@@ -105,12 +123,12 @@ fn mapped(
 pub fn made(
     alloc: Global,
     names: &Names,
-    macros: &[Macro],
+    macros: usize,
     scope: &Scope,
     maker: Maker,
     args: Meanings,
 ) -> Result<MeasuredSide, ReadError>
-    ensures { Means side_of result (made maker (signature_of names.now macros.now) scope.now (meanings_of args)) }
+    ensures { Means side_of result (made maker (names_before names.now macros) scope.now (meanings_of args)) }
 {
     match maker {
         Maker::Operator(word) => Ok(MeasuredSide::Meant(applied(alloc, word, args)?)),

@@ -3,13 +3,13 @@
 ghost use Rattle.std.specs.Prelude.{◌≡◌};
 ghost use Rattle.std.specs.Char.{digit_value};
 ghost use Rattle.smtlib_terms.specs.Reading.{numeral};
-ghost use Rattle.term_operators.specs.Measured.{Means, meaning_of};
+ghost use Rattle.operator_arguments.specs.Measured.{Means, meaning_of};
 
 use mbqi_terms::Sort;
 use mbqi_values::{FaultKind, ReadError};
 use measured_terms::MeasuredTerm;
-use smtlib_terms::sorts::refused;
-use term_operators::MeasuredMeaning;
+use operator_arguments::MeasuredMeaning;
+use smtlib_terms::refused;
 
 /// The greatest numeral of the profile.
 const GREATEST: u64 = 9_223_372_036_854_775_807;

@@ -9,9 +9,12 @@ ghost use Rattle.smtlib_terms.specs.Operators.{is_relation};
 use mbqi_terms::Sort;
 use mbqi_values::{FaultKind, ReadError, Sequence, Text};
 use sexpr_text::Sexpr;
-use smtlib_terms::binders::{are_binders, is_some_symbol, text_of, trees_in, variables};
-use smtlib_terms::names::{Names, Variables};
-use smtlib_terms::sorts::{is_symbol, refused, sort_of_tree};
+use smtlib_names::binders::variables;
+use smtlib_names::names::Names;
+use smtlib_names::sorts::sort_of_tree;
+use smtlib_names::trees::{are_binders, is_some_symbol, is_symbol, text_of, trees_in};
+use smtlib_terms::names::Variables;
+use smtlib_terms::refused;
 use smtlib_terms::word::{Word, word_of};
 use std::alloc::Global;
 
@@ -110,7 +113,7 @@ fn quantifier_binders(
     if !are_binders(trees) {
         return Err(refused(FaultKind::BadForm));
     }
-    variables(alloc, names.sorts.as_slice(), trees, next)
+    variables(alloc, names.sorts(), trees, next)
 }
 
 /// The plan of a quantifier.
@@ -196,7 +199,7 @@ fn qualified_maker(alloc: Global, names: &Names, head: &[Sexpr]) -> Result<Maker
         return Err(refused(FaultKind::BadForm));
     };
     if is_symbol(first, b"as") && is_symbol(second, b"const") {
-        return Ok(Maker::Constant(sort_of_tree(names.sorts.as_slice(), third)?));
+        return Ok(Maker::Constant(sort_of_tree(names.sorts(), third)?));
     }
     if is_symbol(first, b"_") && is_symbol(second, b"map") {
         return map_maker(alloc, third);

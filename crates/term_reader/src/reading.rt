@@ -3,37 +3,39 @@
 //! The functions call each other, so each takes how many calls may still be nested, which falls with each list and
 //! each macro's body. As many as 2^64 nested calls have no room in memory.
 
-ghost use Rattle.std.specs.Prelude.{◌≡◌, ◌+◌, ◌++◌, List, [], None, Some, length, map, Result, IfOk, MatchOption, OnOk, if◌then◌else◌};
-ghost use Rattle.std.specs.List.{list_any};
+ghost use Rattle.std.specs.Prelude.{◌≡◌, ◌+◌, ◌++◌, [], false, None, Some, length, map, Result, IfOk, MatchOption, OnOk, if◌then◌else◌};
 ghost use Rattle.mbqi_values.specs.declared.fault.FaultKind.{FaultKind};
 ghost use Rattle.smtlib_terms.specs.declared.meaning.Side.{Side};
-ghost use Rattle.smtlib_terms.specs.Answers.{Answers, IsFault};
+ghost use Rattle.smtlib_terms.specs.Answers.{IsFault};
 ghost use Rattle.smtlib_terms.specs.Applying.{alone, meaning_in_scope, name_applied};
-ghost use Rattle.smtlib_terms.specs.Declaring.{reader_of};
+ghost use Rattle.smtlib_terms.specs.Declaring.{names_before, reader_of};
 ghost use Rattle.smtlib_terms.specs.Meaning.{variables_of};
 ghost use Rattle.smtlib_terms.specs.Operators.{two_sides};
-ghost use Rattle.smtlib_terms.specs.Reading.{bindable, binder_name, body_read, first_read, list_read, meant_by, part_of, side, sides_read, trees_in, variables_of_side};
-ghost use Rattle.term_operators.specs.Measured.{Means, meaning_of, meanings_of, side_of};
+ghost use Rattle.smtlib_terms.specs.Reading.{binder_name, body_read, first_read, list_read, meant_by, part_of, side, sides_read, trees_in, variables_of_side};
+ghost use Rattle.operator_arguments.specs.Measured.{Means, meaning_of, meanings_of, side_of};
 ghost use Rattle.term_reader.specs.Plans.{arguments_read, binding_among, bindings_among, is_difference, let_planned, macro_applied, only_part, operator_read, planned, quantifier_planned, second_side, truth_named, two_of};
-ghost use Rattle.smtlib_terms.specs.Words.{is_text};
-ghost use Rattle.term_reader.specs.Scopes.{binding_of, bindings_of, bound_of, names_in, signature_of};
+ghost use Rattle.smtlib_terms.specs.Words.{is_one_of};
+ghost use Rattle.term_reader.specs.Scopes.{binding_of, bindings_of, bound_of};
 
-use crate::macros::{Found, arguments, macro_named, sorts_of};
-use crate::making::{made, plainly, quantified, shallow};
+use crate::macros::{arguments, sorts_of};
+use crate::making::{function_by_name, made, plainly, quantified, shallow};
 use crate::numeral::numeral;
 use crate::plan::{Plan, plan_of};
 use crate::scope::{Binding, Bindings, Bound, Scope, meaning_in_scope, variable_bindings};
-use mbqi_values::{FaultKind, ReadError, Sequence, Text};
+use array_operators::have_sorts;
+use mbqi_values::{FaultKind, ReadError, Sequence};
 use measured_terms::MeasuredFormula;
+use name_tables::NameSet;
+use operator_arguments::{Meanings, MeasuredMeaning, MeasuredSide};
 use sexpr_text::Sexpr;
-use smtlib_terms::binders::{text_of, trees_in};
-use smtlib_terms::names::{Macro, Names, Variables};
-use smtlib_terms::sorts::refused;
-use smtlib_terms::word::{Word, is_reserved};
+use smtlib_names::binders::bindable;
+use smtlib_names::names::{FoundMacro, Names};
+use smtlib_names::trees::{binder_name, text_of, trees_in};
+use smtlib_terms::names::{Macro, Variables};
+use smtlib_terms::refused;
+use smtlib_terms::word::Word;
 use std::alloc::{AllocError, Global};
-use term_operators::{
-    Meanings, MeasuredMeaning, MeasuredSide, function_applied, have_sorts, two_sides,
-};
+use term_operators::two_sides;
 
 /// How many calls may be nested in a call.
 fn fewer(levels: usize) -> Result<usize, AllocError>
@@ -67,31 +69,6 @@ fn truth_named(text: &[u8]) -> Option<bool>
     } else {
         None
     }
-}
-
-/// Whether one of the bindings binds the name.
-fn is_bound(bindings: &[Binding], name: &[u8]) -> bool
-    ensures { result ≡ list_any (λ b. is_text b.name name.now) bindings.now }
-{
-    bindings.iter().any(|b| b.name.as_slice() == name)
-}
-
-/// The name that a binding binds, which may not be reserved or among those bound before in one list.
-#[tactic(auto, using(crate::proofs::Ends::any_name))]
-fn bound_name(alloc: Global, tree: &Sexpr, before: &[Binding]) -> Result<Text, ReadError>
-    ensures { Answers result (bindable (binder_name tree.now) (names_in before.now)) }
-{
-    let name = match trees_in(tree) {
-        [first, ..] => text_of(first),
-        [] => &[],
-    };
-    if is_reserved(name) {
-        return Err(refused(FaultKind::ReservedName));
-    }
-    if is_bound(before, name) {
-        return Err(refused(FaultKind::Twice));
-    }
-    Ok(Sequence::from_slice(alloc, name)?)
 }
 
 /// Whether a side is a difference.
@@ -160,13 +137,13 @@ fn only(parts: &[Sexpr], body: MeasuredMeaning) -> Result<MeasuredMeaning, ReadE
 fn read_macro(
     alloc: Global,
     names: &Names,
-    before: &[Macro],
+    before: usize,
     definition: &Macro,
     args: Meanings,
     next: usize,
     levels: usize,
 ) -> Result<MeasuredMeaning, ReadError>
-    ensures { Means meaning_of result (macro_applied (reader_of (signature_of names.now before.now) definition.now) (meanings_of args) next) }
+    ensures { Means meaning_of result (macro_applied (reader_of (names_before names.now before) definition.now) (meanings_of args) next) }
 {
     let below = fewer(levels)?;
     let parameters = definition.parameters.as_slice();
@@ -178,7 +155,7 @@ fn read_macro(
         return Err(refused(FaultKind::WrongSort));
     }
     let mut scope = Scope::new(alloc);
-    scope.enter(arguments(alloc, parameters, args, next)?)?;
+    scope.enter(alloc, arguments(alloc, parameters, args, next)?)?;
     read_meaning(
         alloc,
         names,
@@ -196,24 +173,24 @@ fn read_macro(
 fn read_name(
     alloc: Global,
     names: &Names,
-    macros: &[Macro],
+    macros: usize,
     scope: &Scope,
     name: &[u8],
     next: usize,
     args: Meanings,
     levels: usize,
 ) -> Result<MeasuredMeaning, ReadError>
-    ensures { Means meaning_of result (name_applied (signature_of names.now macros.now) scope.now name.now next (meanings_of args)) }
+    ensures { Means meaning_of result (name_applied (names_before names.now macros) scope.now name.now next (meanings_of args)) }
 {
     if let Some(bound) = scope.find(name) {
         return bound_alone(alloc, next, bound, args.as_slice());
     }
-    match macro_named(names, macros, name) {
+    match names.macro_named(macros, name) {
         Some(found) => {
-            let Found { before, definition } = found;
-            read_macro(alloc, names, before, definition, args, next, levels)
+            let FoundMacro { place, definition } = found;
+            read_macro(alloc, names, place, definition, args, next, levels)
         }
-        None => function_applied(alloc, names.functions.as_slice(), name, args),
+        None => function_by_name(alloc, names, name, args),
     }
 }
 
@@ -222,13 +199,13 @@ fn read_name(
 pub fn read_meaning(
     alloc: Global,
     names: &Names,
-    macros: &[Macro],
+    macros: usize,
     scope: &mut Scope,
     tree: &Sexpr,
     next: usize,
     levels: usize,
 ) -> Result<MeasuredMeaning, ReadError>
-    ensures meant { Means meaning_of result (meant_by tree.now (signature_of names.now macros.now) scope.old next) }
+    ensures meant { Means meaning_of result (meant_by tree.now (names_before names.now macros) scope.old next) }
     ensures scope { OnOk result (scope.new ≡ scope.old) }
 {
     let side = read_side(alloc, names, macros, scope, tree, next, levels)?;
@@ -240,13 +217,13 @@ pub fn read_meaning(
 fn read_first(
     alloc: Global,
     names: &Names,
-    macros: &[Macro],
+    macros: usize,
     scope: &mut Scope,
     parts: &[Sexpr],
     next: usize,
     levels: usize,
 ) -> Result<MeasuredMeaning, ReadError>
-    ensures meant { Means meaning_of result (first_read (map part_of parts.now) (signature_of names.now macros.now) scope.old next) }
+    ensures meant { Means meaning_of result (first_read (map part_of parts.now) (names_before names.now macros) scope.old next) }
     ensures scope { OnOk result (scope.new ≡ scope.old) }
 {
     let [first, ..] = parts else {
@@ -260,18 +237,18 @@ fn read_first(
 fn read_body(
     alloc: Global,
     names: &Names,
-    macros: &[Macro],
+    macros: usize,
     scope: &mut Scope,
     bindings: Bindings,
     parts: &[Sexpr],
     next: usize,
     levels: usize,
 ) -> Result<MeasuredMeaning, ReadError>
-    ensures meant { Means meaning_of result (body_read (map part_of parts.now) (signature_of names.now macros.now) (bindings_of bindings ++ scope.old) next) }
+    ensures meant { Means meaning_of result (body_read (map part_of parts.now) (names_before names.now macros) (bindings_of bindings ++ scope.old) next) }
     ensures scope { OnOk result (scope.new ≡ scope.old) }
 {
     let outside = scope.len();
-    scope.enter(bindings)?;
+    scope.enter(alloc, bindings)?;
     let body = read_first(alloc, names, macros, scope, parts, next, levels)?;
     scope.leave(outside);
     only(parts, body)
@@ -283,14 +260,14 @@ fn read_body(
 fn read_arguments(
     alloc: Global,
     names: &Names,
-    macros: &[Macro],
+    macros: usize,
     scope: &mut Scope,
     parts: &[Sexpr],
     counted: bool,
     next: usize,
     levels: usize,
 ) -> Result<Meanings, ReadError>
-    ensures meant { Means meanings_of result (arguments_read counted (map part_of parts.now) (signature_of names.now macros.now) scope.old next) }
+    ensures meant { Means meanings_of result (arguments_read counted (map part_of parts.now) (names_before names.now macros) scope.old next) }
     ensures scope { OnOk result (scope.new ≡ scope.old) }
 {
     let mut next = next;
@@ -309,7 +286,7 @@ fn read_arguments(
 fn read_second(
     alloc: Global,
     names: &Names,
-    macros: &[Macro],
+    macros: usize,
     scope: &mut Scope,
     tree: &Sexpr,
     behind_difference: bool,
@@ -317,7 +294,7 @@ fn read_second(
     variables: usize,
     levels: usize,
 ) -> Result<MeasuredSide, ReadError>
-    ensures meant { Means side_of result (second_side behind_difference (side tree.now (signature_of names.now macros.now) scope.old (next + variables))) }
+    ensures meant { Means side_of result (second_side behind_difference (side tree.now (names_before names.now macros) scope.old (next + variables))) }
     ensures scope { OnOk result (scope.new ≡ scope.old) }
 {
     let behind = place_behind(next, variables)?;
@@ -333,14 +310,14 @@ fn read_second(
 fn read_beside(
     alloc: Global,
     names: &Names,
-    macros: &[Macro],
+    macros: usize,
     scope: &mut Scope,
     left: MeasuredSide,
     tree: &Sexpr,
     next: usize,
     levels: usize,
 ) -> Result<Meanings, ReadError>
-    ensures meant { Means meanings_of result (two_sides (side_of left) (side tree.now (signature_of names.now macros.now) scope.old (next + variables_of_side (side_of left)))) }
+    ensures meant { Means meanings_of result (two_sides (side_of left) (side tree.now (names_before names.now macros) scope.old (next + variables_of_side (side_of left)))) }
     ensures scope { OnOk result (scope.new ≡ scope.old) }
 {
     let differs = is_difference(&left);
@@ -356,14 +333,14 @@ fn read_beside(
 fn read_sides(
     alloc: Global,
     names: &Names,
-    macros: &[Macro],
+    macros: usize,
     scope: &mut Scope,
     first: &Sexpr,
     second: &Sexpr,
     next: usize,
     levels: usize,
 ) -> Result<Meanings, ReadError>
-    ensures meant { Means meanings_of result (sides_read (part_of first.now) (part_of second.now) (signature_of names.now macros.now) scope.old next) }
+    ensures meant { Means meanings_of result (sides_read (part_of first.now) (part_of second.now) (names_before names.now macros) scope.old next) }
     ensures scope { OnOk result (scope.new ≡ scope.old) }
 {
     let left = read_side(alloc, names, macros, scope, first, next, levels)?;
@@ -376,14 +353,14 @@ fn read_sides(
 fn read_operands(
     alloc: Global,
     names: &Names,
-    macros: &[Macro],
+    macros: usize,
     scope: &mut Scope,
     parts: &[Sexpr],
     paired: bool,
     next: usize,
     levels: usize,
 ) -> Result<Meanings, ReadError>
-    ensures meant { Means meanings_of result (operator_read paired (map part_of parts.now) (signature_of names.now macros.now) scope.old next) }
+    ensures meant { Means meanings_of result (operator_read paired (map part_of parts.now) (names_before names.now macros) scope.old next) }
     ensures scope { OnOk result (scope.new ≡ scope.old) }
 {
     match two_of(paired, parts) {
@@ -394,26 +371,27 @@ fn read_operands(
     }
 }
 
-/// A binding of a `let`, whose name is none of those bound before.
+/// A binding of a `let`, whose name is none of those seen before it.
 #[cycle(reading)]
 fn read_binding(
     alloc: Global,
     names: &Names,
-    macros: &[Macro],
+    macros: usize,
     scope: &mut Scope,
     tree: &Sexpr,
-    before: &[Binding],
+    seen: &NameSet,
     next: usize,
     levels: usize,
 ) -> Result<Binding, ReadError>
-    ensures meant { Means binding_of result (binding_among (trees_in tree.now) (binder_name tree.now) (signature_of names.now macros.now) scope.old next (names_in before.now)) }
+    ensures meant { Means binding_of result (binding_among (trees_in tree.now) (binder_name tree.now) (names_before names.now macros) scope.old next seen.now) }
+    ensures new { IfOk result (λ b. is_one_of seen.now b.name ≡ false) }
     ensures scope { OnOk result (scope.new ≡ scope.old) }
 {
     let [_, value] = trees_in(tree) else {
         return Err(refused(FaultKind::BadForm));
     };
     let m = read_meaning(alloc, names, macros, scope, value, next, levels)?;
-    let name = bound_name(alloc, tree, before)?;
+    let name = bindable(alloc, binder_name(tree), seen)?;
     Ok(Binding {
         name,
         bound: Bound::Value(next, m),
@@ -425,19 +403,20 @@ fn read_binding(
 fn read_bindings(
     alloc: Global,
     names: &Names,
-    macros: &[Macro],
+    macros: usize,
     scope: &mut Scope,
     trees: &[Sexpr],
     next: usize,
     levels: usize,
 ) -> Result<Bindings, ReadError>
-    ensures meant { Means bindings_of result (bindings_among trees.now (signature_of names.now macros.now) scope.old next []) }
+    ensures meant { Means bindings_of result (bindings_among trees.now (names_before names.now macros) scope.old next []) }
     ensures scope { OnOk result (scope.new ≡ scope.old) }
 {
     let mut bindings: Bindings = Sequence::new(alloc);
+    let mut seen = NameSet::new(alloc);
     for tree in trees {
-        let before = bindings.as_slice();
-        let binding = read_binding(alloc, names, macros, scope, tree, before, next, levels)?;
+        let binding = read_binding(alloc, names, macros, scope, tree, &seen, next, levels)?;
+        seen.insert(alloc, binding.name.as_slice())?;
         bindings.push(binding)?;
     }
     Ok(bindings)
@@ -448,13 +427,13 @@ fn read_bindings(
 fn read_let(
     alloc: Global,
     names: &Names,
-    macros: &[Macro],
+    macros: usize,
     scope: &mut Scope,
     parts: &[Sexpr],
     next: usize,
     levels: usize,
 ) -> Result<MeasuredMeaning, ReadError>
-    ensures meant { Means meaning_of result (let_planned (map part_of parts.now) (signature_of names.now macros.now) scope.old next) }
+    ensures meant { Means meaning_of result (let_planned (map part_of parts.now) (names_before names.now macros) scope.old next) }
     ensures scope { OnOk result (scope.new ≡ scope.old) }
 {
     let [first, body @ ..] = parts else {
@@ -469,7 +448,7 @@ fn read_let(
 fn read_quantifier(
     alloc: Global,
     names: &Names,
-    macros: &[Macro],
+    macros: usize,
     scope: &mut Scope,
     word: Word,
     variables: Variables,
@@ -477,7 +456,7 @@ fn read_quantifier(
     next: usize,
     levels: usize,
 ) -> Result<MeasuredMeaning, ReadError>
-    ensures meant { Means meaning_of result (quantifier_planned word variables (map part_of parts.now) (signature_of names.now macros.now) scope.old next) }
+    ensures meant { Means meaning_of result (quantifier_planned word variables (map part_of parts.now) (names_before names.now macros) scope.old next) }
     ensures scope { OnOk result (scope.new ≡ scope.old) }
 {
     let [_, body @ ..] = parts else {
@@ -494,7 +473,7 @@ fn read_quantifier(
 fn read_planned(
     alloc: Global,
     names: &Names,
-    macros: &[Macro],
+    macros: usize,
     scope: &mut Scope,
     plan: Plan,
     text: &[u8],
@@ -502,7 +481,7 @@ fn read_planned(
     next: usize,
     levels: usize,
 ) -> Result<MeasuredSide, ReadError>
-    ensures meant { Means side_of result (planned plan text.now (map part_of parts.now) (signature_of names.now macros.now) scope.old next) }
+    ensures meant { Means side_of result (planned plan text.now (map part_of parts.now) (names_before names.now macros) scope.old next) }
     ensures scope { OnOk result (scope.new ≡ scope.old) }
 {
     let m = match plan {
@@ -532,13 +511,13 @@ fn read_planned(
 fn read_list(
     alloc: Global,
     names: &Names,
-    macros: &[Macro],
+    macros: usize,
     scope: &mut Scope,
     trees: &[Sexpr],
     next: usize,
     levels: usize,
 ) -> Result<MeasuredSide, ReadError>
-    ensures meant { Means side_of result (list_read (map part_of trees.now) (signature_of names.now macros.now) scope.old next) }
+    ensures meant { Means side_of result (list_read (map part_of trees.now) (names_before names.now macros) scope.old next) }
     ensures scope { OnOk result (scope.new ≡ scope.old) }
 {
     let below = fewer(levels)?;
@@ -566,13 +545,13 @@ fn read_list(
 fn read_side(
     alloc: Global,
     names: &Names,
-    macros: &[Macro],
+    macros: usize,
     scope: &mut Scope,
     tree: &Sexpr,
     next: usize,
     levels: usize,
 ) -> Result<MeasuredSide, ReadError>
-    ensures meant { Means side_of result (side tree.now (signature_of names.now macros.now) scope.old next) }
+    ensures meant { Means side_of result (side tree.now (names_before names.now macros) scope.old next) }
     ensures scope { OnOk result (scope.new ≡ scope.old) }
 {
     match tree {

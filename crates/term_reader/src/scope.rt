@@ -1,22 +1,23 @@
 //! The names in scope.
 
-ghost use Rattle.std.specs.Prelude.{◌≡◌, ◌-◌, ◌≤◌, ◌++◌, [], None, Some, length, drop, IfOk, OnOk, MatchOption};
+ghost use Rattle.std.specs.Prelude.{◌≡◌, ◌-◌, ◌++◌, [], ◌∷◌, None, Some, length, drop, IfOk, OnOk, MatchOption};
 ghost use Rattle.smtlib_terms.specs.Applying.{meaning_in_scope};
 ghost use Rattle.smtlib_terms.specs.Meaning.{shifted};
 ghost use Rattle.smtlib_terms.specs.Names.{bound_to};
 ghost use Rattle.smtlib_terms.specs.Reading.{binding_of as variable_binding};
 ghost use Rattle.std.specs.Prelude.{map};
-ghost use Rattle.term_operators.specs.Measured.{meaning_of};
-ghost use Rattle.term_reader.specs.Scopes.{bindings_of, bound_of};
+ghost use Rattle.operator_arguments.specs.Measured.{meaning_of};
+ghost use Rattle.term_reader.specs.Scopes.{binding_of, bindings_of, bound_of};
 
 use mbqi_terms::{Sort, copy_text};
 use mbqi_values::{Sequence, Text};
 use measured_terms::MeasuredTerm;
 use moved_terms::{Shift, moved_formula};
+use name_tables::NameStack;
+use operator_arguments::MeasuredMeaning;
 use smtlib_terms::names::Variable;
 use std::alloc::{AllocError, Global};
 use std::marker::Model;
-use term_operators::MeasuredMeaning;
 
 /// What a name in scope stands for.
 #[derive(Drop)]
@@ -37,25 +38,24 @@ pub struct Binding {
 /// Bindings that come into scope together, in order.
 pub type Bindings = Sequence<Binding>;
 
-/// The bindings in scope, which contracts see without measures and with the innermost first.
+/// The bindings in scope, each found by one look-up. Contracts see them without measures and with the innermost first.
 #[derive(Drop)]
 pub struct Scope {
-    // the innermost last
-    bindings: Vec<Binding>,
+    bindings: NameStack<Bound>,
 }
 
 impl Model for Scope {
-    ghost use Rattle.std.specs.Prelude.{List, reverse};
+    ghost use Rattle.std.specs.Prelude.{List};
     ghost use Rattle.smtlib_terms.specs.declared.names.Binding.{Binding};
     ghost use Rattle.std.specs.Coded.{codes};
     ghost use Rattle.smtlib_terms.specs.contracts.names.Binding as binding;
-    ghost use Rattle.term_reader.specs.Scopes.{bindings_of};
+    ghost use Rattle.term_reader.specs.Scopes.{entries_of};
 
     ghost Value = { List Binding };
 
     ghost coded = { Prim.hlevel (codes, binding.the_row.coded) };
 
-    ghost view = { λ s. reverse (bindings_of s.bindings.items) };
+    ghost view = { λ s. entries_of s.bindings };
 }
 
 impl Scope {
@@ -64,11 +64,12 @@ impl Scope {
         ensures { result ≡ [] }
     {
         Scope {
-            bindings: Vec::new(alloc),
+            bindings: NameStack::new(alloc),
         }
     }
 
     /// How many bindings are in scope.
+    #[tactic(auto, using(crate::proofs::Ends::entry_laws))]
     pub fn len(&self) -> usize
         ensures { result ≡ length self.now }
     {
@@ -76,36 +77,35 @@ impl Scope {
     }
 
     /// What the name stands for: its innermost binding.
-    #[tactic(auto, using(crate::proofs::Ends::end_laws))]
     pub fn find(&self, name: &[u8]) -> Option<&Bound>
         ensures { MatchOption result (bound_to name.now self.now ≡ None) (λ b. bound_to name.now self.now ≡ Some (bound_of b.now)) }
     {
-        let mut rest = self.bindings.as_slice();
-        while let Some((binding, outer)) = rest.split_last() {
-            if name == binding.name.as_slice() {
-                return Some(&binding.bound);
-            }
-            rest = outer;
-        }
-        None
+        self.bindings.find(name)
+    }
+
+    /// Brings a binding into scope.
+    fn push(&mut self, alloc: Global, binding: Binding) -> Result<(), AllocError>
+        ensures { OnOk result (self.new ≡ binding_of binding ∷ self.old) }
+    {
+        let Binding { name, bound } = binding;
+        self.bindings.push(alloc, name.as_slice(), bound)
     }
 
     /// Brings bindings into scope, the first one innermost. After want of memory the scope is of no more use.
     #[tactic(auto, using(crate::proofs::Ends::end_laws))]
-    pub fn enter(&mut self, bindings: Bindings) -> Result<(), AllocError>
+    pub fn enter(&mut self, alloc: Global, bindings: Bindings) -> Result<(), AllocError>
         ensures { OnOk result (self.new ≡ bindings_of bindings ++ self.old) }
     {
         let mut bindings = bindings.into_vec();
         while let Some(binding) = bindings.pop() {
-            self.bindings.push(binding)?;
+            self.push(alloc, binding)?;
         }
         Ok(())
     }
 
     /// Takes the innermost bindings out of scope until so many are left.
-    #[tactic(auto, using(crate::proofs::Ends::left))]
+    #[tactic(auto, using(crate::proofs::Ends::entry_laws))]
     pub fn leave(&mut self, len: usize)
-        requires { len ≤ length self.old }
         ensures { self.new ≡ drop (length self.old - len) self.old }
     {
         self.bindings.truncate(len);

@@ -2,7 +2,7 @@ use crate::{define_macro, read_formula};
 use mbqi_terms::{Formula, Plain, Sort, same_formula};
 use mbqi_values::{FaultKind, ReadError, Sequence};
 use sexpr_text::read_forms;
-use smtlib_terms::names::Names;
+use smtlib_names::names::Names;
 use std::alloc::{AllocError, Global};
 use std::test::Fail;
 

@@ -1,7 +1,7 @@
 -- The bindings so far, with those of the parameters and arguments that are left, are all.
 use Rattle.std.proofs.Common.{◌≡◌, ◌++◌, drop}
 use Rattle.smtlib_terms.specs.Declaring.{arguments}
-use Rattle.term_operators.specs.Measured.{meanings_of}
+use Rattle.operator_arguments.specs.Measured.{meanings_of}
 use Rattle.term_reader.specs.Scopes.{bindings_of}
 use Rattle.term_reader.proofs.macros.arguments.Given as goal
 

@@ -1,7 +1,7 @@
 -- The arguments so far, with those of the parameters that are left, are all.
 use Rattle.std.proofs.Common.{◌≡◌, ◌++◌, drop}
 use Rattle.smtlib_terms.specs.Declaring.{opaque_from}
-use Rattle.term_operators.specs.Measured.{meanings_of}
+use Rattle.operator_arguments.specs.Measured.{meanings_of}
 use Rattle.term_reader.proofs.macros.opaque_from.Given as goal
 
 abbrev pub invariant-loop-parameter : goal.invariant-loop-parameter

@@ -2,9 +2,10 @@
 -- those of a lower rank alone.
 use Rattle.std.proofs.Common.{◌≡◌, ◌+◌, ◌*◌, [], drop, map}
 use Rattle.smtlib_terms.specs.Reading.{part_of}
-use Rattle.term_operators.specs.Measured.{meanings_of}
+use Rattle.operator_arguments.specs.Measured.{meanings_of}
+use Rattle.smtlib_terms.specs.Declaring.{names_before}
 use Rattle.term_reader.specs.Plans.{arguments_behind, arguments_read, bindings_among, bindings_behind}
-use Rattle.term_reader.specs.Scopes.{bindings_of, names_in, signature_of}
+use Rattle.term_reader.specs.Scopes.{bindings_of}
 use Rattle.term_reader.proofs.reading.+reading.Given as goal
 
 abbrev pub decreases-read_macro : goal.decreases-read_macro
@@ -62,11 +63,11 @@ decreases-read_planned l = 16 * l.levels + 9
 abbrev pub invariant-read_arguments-loop-part : goal.invariant-read_arguments-loop-part
 invariant-read_arguments-loop-part l =
     (l.scope ≡ l.fn.scope)
-    × (arguments_read l.counted (map part_of l.parts) (signature_of l.names l.macros) l.fn.scope l.fn.next
-    ≡ arguments_behind (meanings_of l.args) l.counted (map part_of (drop l.part-index l.parts)) (signature_of l.names l.macros) l.fn.scope l.next)
+    × (arguments_read l.counted (map part_of l.parts) (names_before l.names l.macros) l.fn.scope l.fn.next
+    ≡ arguments_behind (meanings_of l.args) l.counted (map part_of (drop l.part-index l.parts)) (names_before l.names l.macros) l.fn.scope l.next)
 
 abbrev pub invariant-read_bindings-loop-tree : goal.invariant-read_bindings-loop-tree
 invariant-read_bindings-loop-tree l =
     (l.scope ≡ l.fn.scope)
-    × (bindings_among l.trees (signature_of l.names l.macros) l.fn.scope l.next []
-    ≡ bindings_behind (bindings_of l.bindings) (drop l.tree-index l.trees) (signature_of l.names l.macros) l.fn.scope l.next (names_in l.bindings))
+    × (bindings_among l.trees (names_before l.names l.macros) l.fn.scope l.next []
+    ≡ bindings_behind (bindings_of l.bindings) (drop l.tree-index l.trees) (names_before l.names l.macros) l.fn.scope l.next l.seen)
