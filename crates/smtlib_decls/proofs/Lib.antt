@@ -1,2 +1,3 @@
+mod Labelled
 pub mod SortsRead
 pub mod Rows

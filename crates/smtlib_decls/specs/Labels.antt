@@ -1,5 +1,5 @@
 -- Labels of assertions (SMT-LIB 2.6, section 3.9: `:named`).
-use Rattle.std.specs.Prelude.{ℕ, ◌+◌, Bool, false, List, [], ◌∷◌, drop, codes, Option, None, Some, Result, Ok, Err, if◌then◌else◌}
+use Rattle.std.specs.Prelude.{◌≡◌, ℕ, ◌+◌, Bool, false, List, [], ◌∷◌, drop, codes, Option, None, Some, Result, Ok, Err, if◌then◌else◌}
 use Rattle.std.specs.List.{list_any, position}
 use Rattle.mbqi_values.specs.declared.fault.FaultKind.{FaultKind}
 use Rattle.mbqi_values.specs.declared.fault.FaultKind.TheVariants.{BadForm}
@@ -8,7 +8,8 @@ use Rattle.sexpr_text.specs.declared.tree.Sexpr.{Sexpr}
 use Rattle.sexpr_text.specs.declared.tree.Sexpr.TheVariants as tree
 use Rattle.smtlib_terms.specs.Names.{is_symbol}
 use Rattle.smtlib_terms.specs.Reading.{is_some_symbol, text_of, trees_in}
-use Rattle.smtlib_terms.specs.Words.{is_text}
+use Rattle.name_tables.specs.Names.{with_name}
+use Rattle.smtlib_terms.specs.Words.{is_one_of, is_text}
 
 -- The keyword `:named`.
 abbrev pub is_named : Sexpr → Bool
@@ -47,3 +48,11 @@ is_labelled label (Some other) = is_text other label
 abbrev pub is_taken : Option (List ℕ) → List Assertion → Bool
 is_taken None assertions = false
 is_taken (Some label) assertions = list_any (λ (a : Assertion). is_labelled label a.label) assertions
+
+-- Labels with that of one more assertion, and the labels of assertions, for looking up. No public clause cites them.
+abbrev pub with_label : List (List ℕ) → Option (List ℕ) → List (List ℕ)
+with_label labels None = labels
+with_label labels (Some label) = with_name labels label
+
+abbrev pub AreLabels : List (List ℕ) → List Assertion → Type 0
+AreLabels labels assertions = (label : List ℕ) → is_one_of labels label ≡ is_taken (Some label) assertions

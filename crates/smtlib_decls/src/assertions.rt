@@ -4,9 +4,9 @@ ghost use Rattle.std.specs.Prelude.{◌≡◌};
 ghost use Rattle.smtlib_decls.specs.Commands.{asserted, assertion_command, question_command};
 ghost use Rattle.smtlib_decls.specs.Takes.{Takes};
 
-use crate::label::{is_taken, label_of};
+use crate::label::label_of;
 use crate::progress::Progress;
-use mbqi_terms::{Assertion, Formula};
+use mbqi_terms::Formula;
 use mbqi_values::{FaultKind, ReadError, Text};
 use sexpr_text::Sexpr;
 use smtlib_terms::refused;
@@ -15,6 +15,7 @@ use term_reader::read_formula;
 
 /// Asserts a formula, with its label.
 fn take_formula(
+    alloc: Global,
     progress: &mut Progress,
     label: Option<Text>,
     formula: Formula,
@@ -24,10 +25,10 @@ fn take_formula(
     if progress.asks {
         return Err(refused(FaultKind::Unsupported));
     }
-    if is_taken(progress.assertions.as_slice(), &label) {
+    if progress.assertions.is_taken(&label) {
         return Err(refused(FaultKind::Twice));
     }
-    progress.assertions.push(Assertion { label, formula })?;
+    progress.assertions.push(alloc, label, formula)?;
     Ok(())
 }
 
@@ -44,7 +45,7 @@ pub fn take_assertion(
     };
     let label = label_of(alloc, tree)?;
     let formula = read_formula(alloc, &progress.names, tree)?;
-    take_formula(progress, label, formula)
+    take_formula(alloc, progress, label, formula)
 }
 
 /// Takes `(check-sat)`, behind its word.

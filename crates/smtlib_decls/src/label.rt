@@ -3,9 +3,8 @@
 ghost use Rattle.std.specs.Prelude.{◌≡◌};
 ghost use Rattle.std.specs.List.{list_any, position};
 ghost use Rattle.smtlib_terms.specs.Answers.{Answers};
-ghost use Rattle.smtlib_decls.specs.Labels.{attributes_in, first_symbol, is_labelled, is_named, is_taken, label_among, label_behind, label_of};
+ghost use Rattle.smtlib_decls.specs.Labels.{attributes_in, first_symbol, is_named, label_among, label_behind, label_of};
 
-use mbqi_terms::Assertion;
 use mbqi_values::{FaultKind, ReadError, Text};
 use sexpr_text::Sexpr;
 use smtlib_names::trees::{is_some_symbol, is_symbol, text_of, trees_in};
@@ -89,33 +88,4 @@ pub fn label_of(alloc: Global, tree: &Sexpr) -> Result<Option<Text>, ReadError>
     ensures { Answers result (label_of tree.now) }
 {
     label_among(alloc, attributes_in(trees_in(tree)))
-}
-
-/// Whether an assertion has the label.
-fn is_labelled(assertion: &Assertion, label: &[u8]) -> bool
-    ensures { result ≡ is_labelled label.now assertion.now.label }
-{
-    match &assertion.label {
-        Some(other) => other.as_slice() == label,
-        None => false,
-    }
-}
-
-/// Whether one of the assertions has the label.
-fn is_any_labelled(assertions: &[Assertion], label: &[u8]) -> bool
-    ensures { result ≡ list_any (λ a. is_labelled label.now a.label) assertions.now }
-{
-    assertions
-        .iter()
-        .any(|assertion| is_labelled(assertion, label))
-}
-
-/// Whether there is a label, and one of the assertions has it.
-pub fn is_taken(assertions: &[Assertion], label: &Option<Text>) -> bool
-    ensures { result ≡ is_taken label.now assertions.now }
-{
-    match label {
-        Some(label) => is_any_labelled(assertions, label.as_slice()),
-        None => false,
-    }
 }

@@ -10,6 +10,7 @@ mod assertions;
 mod command;
 mod declarations;
 mod label;
+mod labelled;
 mod laws;
 mod progress;
 mod reader;

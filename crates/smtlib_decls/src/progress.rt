@@ -3,7 +3,8 @@
 ghost use Rattle.std.specs.Prelude.{◌≡◌};
 ghost use Rattle.smtlib_decls.specs.Scripts.{nothing, script_of};
 
-use mbqi_terms::{Assertions, Script};
+use crate::labelled::LabelledAssertions;
+use mbqi_terms::Script;
 use smtlib_names::names::Names;
 use std::alloc::Global;
 
@@ -11,7 +12,7 @@ use std::alloc::Global;
 #[derive(Drop)]
 pub struct Progress {
     pub names: Names,
-    pub assertions: Assertions,
+    pub assertions: LabelledAssertions,
     pub asks: bool,
 }
 
@@ -22,7 +23,7 @@ impl Progress {
     {
         Progress {
             names: Names::new(alloc),
-            assertions: Assertions::new(alloc),
+            assertions: LabelledAssertions::new(alloc),
             asks: false,
         }
     }
@@ -40,7 +41,7 @@ impl Progress {
         Script {
             sorts,
             functions,
-            assertions,
+            assertions: assertions.into_assertions(),
             asks,
         }
     }
