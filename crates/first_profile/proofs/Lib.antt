@@ -1,3 +1,1 @@
-pub mod Clauses
-pub mod Elementary
-pub mod Rows
+pub mod Deciding

@@ -1,17 +1,16 @@
-//! The first profile of scripts: one sort, its constants, predicates over it, and assertions that are clauses or quantified
-//! clauses.
+//! The first profile as a test of scripts: one sort, its constants, predicates over it, and assertions that are clauses, with or without
+//! variables.
 //!
-//! Start with [`read_script`], and with `specs/Profile.antt`, which says what a list of commands means. The assertions are
-//! read by `assertions` and the variables of their quantifiers by `binders`; the trees are viewed by `tree`, and `names`
-//! says which words may be declared or bound.
+//! Start with [`is_elementary`]. What the profile is stands in `specs/Profile.antt` of the crate `ground_form`. Each function here decides one
+//! of its definitions, takes no memory, and looks at each part of a script once.
 
 #![tactic(auto)]
 
-mod assertions;
-mod binders;
-mod names;
-mod reader;
-mod tree;
+mod clauses;
+mod functions;
+mod rules;
+mod scripts;
+#[cfg(test)]
+mod tests;
 
-pub use names::RESERVED_WORDS;
-pub use reader::{one_meaning, read_script};
+pub use scripts::is_elementary;

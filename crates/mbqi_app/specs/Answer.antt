@@ -1,6 +1,7 @@
 use Rattle.std.specs.Prelude.{◌≡◌, ℕ, ◌+◌, ◌<◌, ◌≤◌, ◌⊎◌, List, [], ◌∷◌, length, take, Option, None, Some, Bool, true, false, Result, Ok, Err}
 use Rattle.mbqi_values.specs.declared.fault.ReadError.{ReadError}
 use Rattle.mbqi_values.specs.declared.fault.ReadError.TheVariants as error
+use Rattle.mbqi_values.specs.declared.fault.FaultKind.TheVariants.{Unsupported}
 use Rattle.mbqi_values.specs.declared.fault.Refusal.{Refusal}
 use Rattle.mbqi_values.specs.declared.status.Status.{Status}
 use Rattle.mbqi_values.specs.declared.status.Status.TheVariants.{Sat, Unsat, Unknown, Done, No, Words, ScriptRefused, ReadFault, TooLong, WriteFault, Memory, TooWide, ModelRefused, RefutationRefused}
@@ -12,9 +13,8 @@ use Rattle.function_model.specs.declared.model.FunctionModel.{FunctionModel}
 use Rattle.function_model.specs.Fits.{Fits}
 use Rattle.function_model.specs.Holds.{Holds}
 use Rattle.mbqi_app.specs.Command.{Command, Solve, Print, asked_for, files_of}
-use Rattle.first_profile.specs.Means.{Means}
-use Rattle.first_profile.specs.Means as first_profile
-use Rattle.smtlib_decls.specs.Means as smtlib
+use Rattle.ground_form.specs.Profile.{IsElementary}
+use Rattle.smtlib_decls.specs.Means.{Means, Refused}
 use Rattle.script_text.specs.Text.{script_text}
 use Rattle.mbqi_app.specs.ModelText.{model_text}
 use Rattle.rule_form.specs.Rules.{count}
@@ -57,7 +57,7 @@ IsSolution bytes rise status text = ⊥
 
 -- What `print` may write for a file, by its status: the canonical text of the script of the bytes.
 abbrev pub IsPrinted : List ℕ → Status → List ℕ → Type 0
-IsPrinted bytes Done text = (script : Script) × smtlib.Means bytes script × (text ≡ script_text script)
+IsPrinted bytes Done text = (script : Script) × Means bytes script × (text ≡ script_text script)
 IsPrinted bytes status text = ⊥
 
 -- What a command may write for the contents of its files, by its status, after the counter rose so far.
@@ -184,24 +184,36 @@ GivesLong words files =
     (command : Command) × (asked_for words ≡ Some command)
     × OfFirst (files_of command) (λ file. GivesFile files file (λ bytes. file_limit < length bytes))
 
--- The bytes mean a script that `solve` takes; and a script that `print` takes.
-abbrev pub IsMeant : List ℕ → Type 0
-IsMeant bytes = (script : Script) × Means bytes script
+-- The bytes mean a script; and one that `solve` takes so far, which is one of the first profile.
+abbrev pub IsTakenByPrint : List ℕ → Type 0
+IsTakenByPrint bytes = (script : Script) × Means bytes script
 
-abbrev pub IsPrintable : List ℕ → Type 0
-IsPrintable bytes = (script : Script) × smtlib.Means bytes script
+abbrev pub IsTakenBySolve : List ℕ → Type 0
+IsTakenBySolve bytes = (script : Script) × Means bytes script × IsElementary script
+
+-- The bytes mean a script that `solve` doesn't take yet.
+abbrev pub IsOutside : List ℕ → Type 0
+IsOutside bytes = (script : Script) × Means bytes script × (IsElementary script → ⊥)
+
+-- What isn't taken yet is refused at the start.
+abbrev pub outside : Refusal
+outside = record { at = 0; kind = Unsupported }
+
+-- The bytes are refused by `solve`: they mean no script and have this first fault, or mean one that isn't taken yet.
+abbrev pub IsRefusedBySolve : List ℕ → Refusal → Type 0
+IsRefusedBySolve bytes refusal = Refused bytes refusal ⊎ (IsOutside bytes × (refusal ≡ outside))
 
 -- The bytes mean a script that the command takes.
 abbrev pub IsTaken : Command → List ℕ → Type 0
-IsTaken (Solve None file) bytes = IsMeant bytes
-IsTaken (Print file) bytes = IsPrintable bytes
+IsTaken (Solve None file) bytes = IsTakenBySolve bytes
+IsTaken (Print file) bytes = IsTakenByPrint bytes
 IsTaken command bytes = ⊥
 
--- The bytes are refused as the script of the command: `solve` refuses each file outside the first profile at its start, and
--- `print` refuses at the first fault.
+-- The bytes are refused as the script of the command: at the first fault where they mean no script, and by `solve` at the start
+-- where it doesn't take the script yet.
 abbrev pub IsRefusedAs : Refusal → Command → List ℕ → Type 0
-IsRefusedAs refusal (Solve None file) bytes = first_profile.Refused bytes refusal
-IsRefusedAs refusal (Print file) bytes = smtlib.Refused bytes refusal
+IsRefusedAs refusal (Solve None file) bytes = IsRefusedBySolve bytes refusal
+IsRefusedAs refusal (Print file) bytes = Refused bytes refusal
 IsRefusedAs refusal command bytes = ⊥
 
 -- The names of the words' files.

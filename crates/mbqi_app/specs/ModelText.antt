@@ -7,8 +7,9 @@ use Rattle.mbqi_terms.specs.declared.script.Script.{Script}
 use Rattle.function_model.specs.declared.model.FunctionModel.{FunctionModel}
 use Rattle.function_model.specs.declared.model.Row.{Row}
 use Rattle.function_model.specs.declared.model.Table.{Table}
+use Rattle.smtlib_printer.specs.Names.{name_text}
 
--- The text of a shown model (this project's own), for scripts whose names are simple symbols.
+-- The text of a shown model (this project's own).
 
 -- A number as SMT-LIB 2.6 writes it: -n is `(- n)`.
 abbrev pub number_text : ℤ → List ℕ
@@ -42,7 +43,7 @@ row_text row = list_text (values_text row.places ∷ value_text row.value ∷ []
 -- `(fun f (K ...) (R ...) v)`
 abbrev pub table_text : Function → Table → List ℕ
 table_text function table =
-    codes "(fun " ++ function.name ++ codes " " ++ list_text (map values_text table.knots)
+    codes "(fun " ++ name_text function.name ++ codes " " ++ list_text (map values_text table.knots)
     ++ codes " " ++ list_text (map row_text table.rows) ++ codes " " ++ value_text table.default ++ codes ")\n"
 
 abbrev pub tables_text : List Function → List Table → List ℕ
@@ -52,7 +53,7 @@ tables_text (function ∷ functions) (table ∷ tables) = table_text function ta
 
 -- `(sort s n)`
 abbrev pub sort_text : List ℕ → ℕ → List ℕ
-sort_text name size = codes "(sort " ++ name ++ codes " " ++ decimal size ++ codes ")\n"
+sort_text name size = codes "(sort " ++ name_text name ++ codes " " ++ decimal size ++ codes ")\n"
 
 abbrev pub sorts_text : List (List ℕ) → List ℕ → List ℕ
 sorts_text [] sizes = []

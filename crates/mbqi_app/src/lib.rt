@@ -1,8 +1,8 @@
 //! The program's one call, [`run`]: from the words and the bytes of files to the bytes of an answer.
 //!
-//! `run` finds the command of its words and fetches its files. For `solve` the crate `first_profile` reads a script, `mbqi_loop`
-//! decides it, and [`model_text`] or the crate `refutation_text` writes the answer. For `print` the crate `smtlib_decls` reads a script
-//! and `script_text` writes it. The clauses of `run` say what each status means; their definitions
+//! `run` finds the command of its words and fetches its files. The crate `smtlib_decls` reads a script. For `solve` the crate
+//! `first_profile` says whether the script is taken so far, `mbqi_loop` decides it, and [`model_text`] or the crate `refutation_text` writes the
+//! answer. For `print` the crate `script_text` writes the script. The clauses of `run` say what each status means; their definitions
 //! stand in `specs/`, beginning with `Answer`.
 
 #![tactic(auto)]

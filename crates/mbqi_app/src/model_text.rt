@@ -8,9 +8,10 @@ use function_model::{FunctionModel, Row, Table};
 use itoa::Buffer;
 use mbqi_terms::{Function, Script, Values};
 use mbqi_values::{Text, Value};
+use smtlib_printer::write_name;
 use std::alloc::AllocError;
 
-/// Appends the lines of a shown model for its script, whose names are simple symbols.
+/// Appends the lines of a shown model for its script.
 #[tactic(auto, unfolding(crate::specs::ModelText::model_text))]
 pub fn write_model(
     script: &Script,
@@ -40,7 +41,7 @@ fn write_sort(name: &[u8], size: u64, into: &mut Vec<u8>) -> Result<(), AllocErr
     ensures { OnOk result (into.new.items ≡ into.old.items ++ sort_text name.now size) }
 {
     into.extend_from_slice(b"(sort ")?;
-    into.extend_from_slice(name)?;
+    write_name(name, into)?;
     into.extend_from_slice(b" ")?;
     into.extend_from_slice(Buffer::new().format(size).as_bytes())?;
     into.extend_from_slice(b")\n")
@@ -64,7 +65,7 @@ fn write_table(function: &Function, table: &Table, into: &mut Vec<u8>) -> Result
     ensures { OnOk result (into.new.items ≡ into.old.items ++ table_text function.now table.now) }
 {
     into.extend_from_slice(b"(fun ")?;
-    into.extend_from_slice(function.name.as_slice())?;
+    write_name(function.name.as_slice(), into)?;
     into.extend_from_slice(b" ")?;
     write_knots(table.knots.as_slice(), into)?;
     into.extend_from_slice(b" ")?;

@@ -6,7 +6,7 @@ ghost use Rattle.mbqi_values.specs.declared.fault.Refusal.{Refusal};
 ghost use Rattle.mbqi_edge.specs.Faults.{Rose};
 ghost use Rattle.mbqi_edge.specs.Files.{Has, Tells};
 ghost use Rattle.mbqi_edge.specs.Told.{with_more};
-ghost use Rattle.mbqi_app.specs.Answer.{IsPrinted, IsPrintable, IsDone, is_answered, is_silent, file_limit, IfScriptRefused, Prints, PrintsFront, TookAll, TookFront, AsksOne, Comes, ComesFromBytes, GivesFile, IsOneOf};
+ghost use Rattle.mbqi_app.specs.Answer.{IsPrinted, IsTakenByPrint, IsDone, is_answered, is_silent, file_limit, IfScriptRefused, Prints, PrintsFront, TookAll, TookFront, AsksOne, Comes, ComesFromBytes, GivesFile, IsOneOf};
 ghost use Rattle.mbqi_values.specs.declared.status.Status.TheVariants.{Done};
 ghost use Rattle.smtlib_decls.specs.Means.{Refused};
 
@@ -33,7 +33,7 @@ pub fn print<F: Shelf, W: Sink>(alloc: Global, file: &str, shelf: &mut F, out: &
     ensures asked { AsksOne (F.asked shelf.old) (F.asked shelf.new) file.now }
     ensures all_asked { IsTrue (is_answered result) → F.asked shelf.new ≡ with_more (F.asked shelf.old) (file.now ∷ []) }
 
-    ensures complete { GivesFile (F.files shelf.old) file.now (λ bytes. (length bytes ≤ file_limit) × IsPrintable bytes)
+    ensures complete { GivesFile (F.files shelf.old) file.now (λ bytes. (length bytes ≤ file_limit) × IsTakenByPrint bytes)
         → IsDone result ⊎ (result ≡ Status.ReadFault) }
     ensures refuses { (refusal : Refusal)
         → GivesFile (F.files shelf.old) file.now (λ bytes. (length bytes ≤ file_limit) × Refused bytes refusal)
@@ -59,7 +59,7 @@ fn write_printed<W: Sink>(alloc: Global, bytes: &[u8], out: &mut W) -> Status
         × ((status : Status) × (text : List ℕ) × IsPrinted bytes.now status text × TookFront (W.taken out.old) (W.taken out.new) text) }
     ensures silent { IsTrue (is_silent result) → W.taken out.new ≡ W.taken out.old }
     ensures comes { ComesFromBytes result }
-    ensures complete { IsPrintable bytes.now → IsDone result }
+    ensures complete { IsTakenByPrint bytes.now → IsDone result }
     ensures refuses { (refusal : Refusal) → Refused bytes.now refusal
         → (result ≡ Status.ScriptRefused refusal) ⊎ (result ≡ Status.Memory) }
 {

@@ -1,26 +1,34 @@
 //! `solve`: from the bytes of a script to a model, or to instances that are refuted.
 
-ghost use Rattle.std.specs.Prelude.{◌≡◌, ◌+◌, ◌++◌, ◌≤◌, ◌<◌, ◌⊎◌, ◌∷◌, [], ℕ, List, length, IfOk, IsTrue};
+ghost use Rattle.std.specs.Prelude.{◌≡◌, ◌+◌, ◌++◌, ◌≤◌, ◌<◌, ◌⊎◌, ◌∷◌, [], ℕ, List, length, IfOk, OnOk, IsTrue};
 ghost use Rattle.sexpr_text.specs.Forms.{IfRefused};
 ghost use Rattle.mbqi_edge.specs.Faults.{Rose};
 ghost use Rattle.mbqi_edge.specs.Files.{Has, Tells};
 ghost use Rattle.mbqi_edge.specs.Told.{with_more};
-ghost use Rattle.mbqi_app.specs.Answer.{IsSolution, is_answered, is_silent, file_limit, IfScriptRefused, CountsSolving, Solves, SolvesFront, TookAll, TookFront, AsksOne, CountsReading, Comes, ComesFromBytes, GivesFile, IsMeant, IsOneOf, IsWritten, IsDecided, outcome_text, status_of};
-ghost use Rattle.first_profile.specs.Means.{Refused, IsOutside};
-ghost use Rattle.first_profile.specs.Reads.{outside};
+ghost use Rattle.mbqi_values.specs.declared.fault.Refusal.{Refusal};
+ghost use Rattle.mbqi_app.specs.Answer.{IsSolution, IsRefusedBySolve, outside, is_answered, is_silent, file_limit, IfScriptRefused, CountsSolving, Solves, SolvesFront, TookAll, TookFront, AsksOne, CountsReading, Comes, ComesFromBytes, GivesFile, IsTakenBySolve, IsOneOf, IsWritten, IsDecided, outcome_text, status_of};
+ghost use Rattle.ground_form.specs.Profile.{IsElementary};
+ghost use Rattle.smtlib_decls.specs.Means.{Means};
 
 use crate::model_text::write_model;
-use first_profile::{one_meaning, read_script};
+use first_profile::is_elementary;
 use mbqi_edge::{FetchFault, Shelf, Sink, put_all};
 use mbqi_loop::{Outcome, solve_rules};
 use mbqi_terms::Script;
-use mbqi_values::{ReadError, Status, Steps};
+use mbqi_values::{FaultKind, ReadError, Refusal, Status, Steps};
 use refutation_text::write_refutation;
+use smtlib_decls::{one_script_or_refusal, read_text};
 use std::alloc::{AllocError, Global};
 use std::sync::ledger::Ledger;
 
 /// How many bytes a file may have.
 pub const FILE_LIMIT: usize = 67_108_864;
+
+/// What isn't taken yet is refused at the start.
+const OUTSIDE: Refusal = Refusal {
+    at: 0,
+    kind: FaultKind::Unsupported,
+};
 
 /// Fetches the file, decides its script, and writes the answer when it is whole.
 pub fn solve<F: Shelf, W: Sink, L: Ledger>(
@@ -32,7 +40,7 @@ pub fn solve<F: Shelf, W: Sink, L: Ledger>(
 ) -> Status
     ensures read_fault { result ≡ Status.ReadFault → Rose (F.faults shelf.old) (F.faults shelf.new) }
     ensures too_long { result ≡ Status.TooLong → Tells (F.files shelf.old) file.now (λ bytes. file_limit < length bytes) }
-    ensures refused { IfScriptRefused result (λ refusal. (bytes : List ℕ) × Has (F.files shelf.old) file.now bytes × Refused bytes refusal) }
+    ensures refused { IfScriptRefused result (λ refusal. (bytes : List ℕ) × Has (F.files shelf.old) file.now bytes × IsRefusedBySolve bytes refusal) }
     ensures answer { IsTrue (is_answered result)
         → Solves (F.files shelf.old) file.now steps.old steps.new result (TookAll (W.taken out.old) (W.taken out.new)) }
     ensures write_fault { result ≡ Status.WriteFault → Rose (W.faults out.old) (W.faults out.new)
@@ -45,10 +53,11 @@ pub fn solve<F: Shelf, W: Sink, L: Ledger>(
     ensures all_asked { IsTrue (is_answered result) → F.asked shelf.new ≡ with_more (F.asked shelf.old) (file.now ∷ []) }
     ensures steps { CountsSolving result steps.old steps.new }
 
-    ensures complete { GivesFile (F.files shelf.old) file.now (λ bytes. (length bytes ≤ file_limit) × IsMeant bytes)
+    ensures complete { GivesFile (F.files shelf.old) file.now (λ bytes. (length bytes ≤ file_limit) × IsTakenBySolve bytes)
         → IsDecided result }
-    ensures refuses { GivesFile (F.files shelf.old) file.now (λ bytes. (length bytes ≤ file_limit) × IsOutside bytes)
-        → IsOneOf result (Status.ScriptRefused outside) }
+    ensures refuses { (refusal : Refusal)
+        → GivesFile (F.files shelf.old) file.now (λ bytes. (length bytes ≤ file_limit) × IsRefusedBySolve bytes refusal)
+        → IsOneOf result (Status.ScriptRefused refusal) }
     ensures long { GivesFile (F.files shelf.old) file.now (λ bytes. file_limit < length bytes)
         → IsOneOf result Status.TooLong }
 {
@@ -68,7 +77,7 @@ fn write_answer<W: Sink, L: Ledger>(
     out: &mut W,
     steps: &mut Steps<L>,
 ) -> Status
-    ensures refused { IfScriptRefused result (λ refusal. Refused bytes.now refusal) }
+    ensures refused { IfScriptRefused result (IsRefusedBySolve bytes.now) }
     ensures answer { IsTrue (is_answered result) → (rise : ℕ) × (steps.new ≡ steps.old + rise) × (text : List ℕ) × IsSolution bytes.now rise result text
         × TookAll (W.taken out.old) (W.taken out.new) text }
     ensures write_fault { result ≡ Status.WriteFault → Rose (W.faults out.old) (W.faults out.new)
@@ -77,10 +86,11 @@ fn write_answer<W: Sink, L: Ledger>(
     ensures silent { IsTrue (is_silent result) → W.taken out.new ≡ W.taken out.old }
     ensures comes { ComesFromBytes result }
     ensures steps { CountsSolving result steps.old steps.new }
-    ensures complete { IsMeant bytes.now → IsWritten result }
-    ensures refuses { IsOutside bytes.now → (result ≡ Status.ScriptRefused outside) ⊎ (result ≡ Status.Memory) }
+    ensures complete { IsTakenBySolve bytes.now → IsWritten result }
+    ensures refuses { (refusal : Refusal) → IsRefusedBySolve bytes.now refusal
+        → (result ≡ Status.ScriptRefused refusal) ⊎ (result ≡ Status.Memory) }
 {
-    one_meaning();
+    one_script_or_refusal();
     match read_answer(alloc, bytes, steps) {
         Ok(answer) => match put_all(out, answer.text.as_slice()) {
             Ok(()) => answer.status,
@@ -105,12 +115,27 @@ fn read_answer<L: Ledger>(
     steps: &mut Steps<L>,
 ) -> Result<Answer, ReadError>
     ensures text { IfOk result (λ answer. (rise : ℕ) × (steps.new ≡ steps.old + rise) × IsSolution bytes.now rise answer.status answer.text.items) }
-    ensures refused { IfRefused result (λ refusal. Refused bytes.now refusal) }
+    ensures taken { OnOk result (IsTakenBySolve bytes.now) }
+    ensures refused { IfRefused result (IsRefusedBySolve bytes.now) }
     ensures steps { CountsReading result steps.old steps.new }
 {
-    let script = read_script(alloc, bytes)?;
+    let script = read_taken(alloc, bytes)?;
     let outcome = solve_rules(alloc, &script, steps)?;
     Ok(answer_of(alloc, &script, &outcome)?)
+}
+
+/// The script of the bytes, which is one that is taken so far.
+fn read_taken(alloc: Global, bytes: &[u8]) -> Result<Script, ReadError>
+    ensures means { IfOk result (Means bytes.now) }
+    ensures elementary { IfOk result (λ script. IsElementary script) }
+    ensures refused { IfRefused result (IsRefusedBySolve bytes.now) }
+{
+    let script = read_text(alloc, bytes)?;
+    if is_elementary(&script) {
+        Ok(script)
+    } else {
+        Err(ReadError::Refused(OUTSIDE))
+    }
 }
 
 /// The status and the text of an outcome.

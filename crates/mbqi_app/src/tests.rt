@@ -9,10 +9,11 @@ mod scripts;
 
 use crate::tests::scripts::Case;
 use crate::{Journal, Outcome, run, solve_rules};
-use first_profile::read_script;
+use first_profile::is_elementary;
 use mbqi_edge::{FetchFault, MemoryShelf, MemorySink, Shelf};
 use mbqi_terms::Script;
 use mbqi_values::{FaultKind, Numbers, Refusal, Status, Steps, Text, Texts};
+use smtlib_decls::read_text;
 use std::alloc::{AllocError, Global};
 use std::marker::Brand;
 use std::process::Abort;
@@ -164,7 +165,7 @@ fn scripts_have_models(rt: HostRuntime) -> Result<(), Fail> {
 }
 
 /// The scripts with assertions.
-const DECIDED: [&Case; 22] = [
+const DECIDED: [&Case; 24] = [
     &scripts::CONTRADICTING_UNITS,
     &scripts::BROKEN_CHAIN,
     &scripts::CHAIN,
@@ -181,6 +182,8 @@ const DECIDED: [&Case; 22] = [
     &scripts::TORN,
     &scripts::THREE_RULES,
     &scripts::INNER_NAME,
+    &scripts::OTHER_FORMS,
+    &scripts::BETWEEN_BARS,
     &examples::ROUND_TABLE,
     &examples::COLOURING,
     &examples::LOCK_CYCLE,
@@ -248,56 +251,109 @@ fn want_of_memory_takes_nothing(rt: HostRuntime) -> Result<(), Fail> {
     Ok(())
 }
 
-/// Whether `run` refuses the script at its start, says so, and writes nothing.
-fn is_outside(alloc: Global, script: &str) -> Result<bool, AllocError> {
-    let refusal = Refusal {
-        at: 0,
-        kind: FaultKind::Unsupported,
-    };
-    let call = call_run(alloc, SOLVE, shelf_of(alloc, script, &[])?, AMPLE)?;
-    let is_told = call.err.taken() == b"mbqi: refused at 0: Unsupported\n".as_slice();
+/// Whether `run` refuses the script of these words at this place and with this kind, says so, and writes nothing.
+fn is_refused(
+    alloc: Global,
+    words: &str,
+    script: &str,
+    at: usize,
+    kind: FaultKind,
+) -> Result<bool, AllocError> {
+    let told = format!(in alloc; "mbqi: refused at {at}: {}\n", kind.name())?;
+    let call = call_run(alloc, words, shelf_of(alloc, script, &[])?, AMPLE)?;
+    let is_told = call.err.taken() == told.as_bytes();
     let is_silent = call.out.taken().is_empty();
-    Ok(call.status == Status::ScriptRefused(refusal) && is_told && is_silent)
+    Ok(call.status == Status::ScriptRefused(Refusal { at, kind }) && is_told && is_silent)
 }
 
+/// Texts that mean no script, with the places and kinds of their first faults. The first form without a meaning is refused at its first
+/// byte: the second of two forms behind a sort stands at 37 or 42, and one behind a constant and a predicate at 61.
+const FAULTY: [(&str, usize, FaultKind); 23] = [
+    ("(declare-const c S)", 0, FaultKind::UnknownName),
+    ("(declare-sort S 1)", 0, FaultKind::Unsupported),
+    ("(declare-sort S)", 0, FaultKind::BadForm),
+    ("(declare-sort \"S\" 0)", 0, FaultKind::BadForm),
+    ("(declare-sort @S 0)", 0, FaultKind::ReservedName),
+    ("(declare-sort .S 0)", 0, FaultKind::ReservedName),
+    (
+        "(declare-sort S 0)(declare-const c S)(declare-const c S)",
+        37,
+        FaultKind::Twice,
+    ),
+    (
+        "(declare-sort S 0)(declare-const c S)(assert (c))",
+        37,
+        FaultKind::BadForm,
+    ),
+    (
+        "(declare-sort S 0)(declare-fun p (S) Bool)(assert (forall ((p S)) (p p)))",
+        42,
+        FaultKind::WrongCount,
+    ),
+    (
+        "(declare-sort S 0)(declare-const c S)(declare-fun p (S) Bool)(assert (p d))",
+        61,
+        FaultKind::UnknownName,
+    ),
+    (
+        "(declare-sort S 0)(declare-const c S)(declare-fun p (S) Bool)(assert (p p))",
+        61,
+        FaultKind::WrongCount,
+    ),
+    (
+        "(declare-sort S 0)(declare-const c S)(declare-fun p (S) Bool)(assert c)",
+        61,
+        FaultKind::WrongSort,
+    ),
+    (
+        "(declare-sort S 0)(declare-const c S)(declare-fun p (S) Bool)(assert (p c) (p c))",
+        61,
+        FaultKind::BadForm,
+    ),
+    (
+        "(declare-sort S 0)\n; (assert p)\n(assert q)",
+        32,
+        FaultKind::UnknownName,
+    ),
+    ("(declare-sort S 0)(push 1)", 18, FaultKind::Unsupported),
+    ("(check-sat 0)", 0, FaultKind::BadForm),
+    ("(check-sat)(check-sat)", 11, FaultKind::Unsupported),
+    ("(check-sat)(declare-sort S 0)", 11, FaultKind::Unsupported),
+    ("check-sat", 0, FaultKind::BadForm),
+    ("()", 0, FaultKind::BadForm),
+    ("(check-sat", 0, FaultKind::Unclosed),
+    ("(check-sat))", 11, FaultKind::Unopened),
+    ("#(check-sat)", 0, FaultKind::BadByte),
+];
+
+#[test]
+fn faulty_scripts_are_refused_at_their_place(rt: HostRuntime) -> Result<(), Fail> {
+    let alloc = rt.alloc();
+    for (script, at, kind) in FAULTY {
+        assert!(rt; is_refused(alloc, SOLVE, script, at, kind)?, "{script}");
+        assert!(rt; is_refused(alloc, PRINT, script, at, kind)?, "{script}");
+    }
+    Ok(())
+}
+
+// Integers, two sorts, no sort, a function that is no predicate, a negation of a negation, a conjunction, an equality, and an existential
+// variable.
 #[test]
 fn scripts_outside_the_profile_are_refused(rt: HostRuntime) -> Result<(), Fail> {
+    let alloc = rt.alloc();
     let scripts = [
         "(declare-const x Int)",
-        "(declare-const c S)",
-        "(declare-sort S 1)",
-        "(declare-sort S)",
         "(declare-sort S 0)(declare-sort T 0)",
-        "(declare-sort S 0)(declare-const c S)(declare-sort T 0)",
-        "(declare-sort S 0)(declare-const c S)(declare-const c S)",
-        "(declare-sort S 0)(declare-const S S)",
-        "(declare-sort @S 0)",
-        "(declare-sort .S 0)",
-        "(declare-sort |S T| 0)",
-        "(declare-sort \"S\" 0)",
-        "(declare-sort S 0)(declare-fun p () Bool)",
+        "(declare-fun p () Bool)(assert p)",
         "(declare-sort S 0)(declare-fun f (S) S)",
-        "(declare-sort S 0)(declare-fun p (S) Bool)(assert (forall ((p S)) (p p)))",
-        "(declare-sort S 0)(declare-const c S)(declare-fun p (S) Bool)(assert (or (p c)))",
-        "(declare-sort S 0)(declare-const c S)(declare-fun p (S) Bool)(assert (p d))",
-        "(declare-sort S 0)(declare-const c S)(declare-fun p (S) Bool)(assert (p p))",
-        "(declare-sort S 0)(declare-const c S)(declare-fun p (S) Bool)(assert (p c c))",
-        "(declare-sort S 0)(declare-const c S)(declare-fun p (S) Bool)(assert (not (not (p c))))",
-        "(declare-sort S 0)(declare-const c S)(declare-fun p (S) Bool)(assert (and (p c) (p c)))",
-        "(declare-sort S 0)(declare-const c S)(declare-fun p (S) Bool)(assert (p c) (p c))",
-        "(declare-sort S 0)(declare-const c S)(declare-fun p (S) Bool)(assert p)",
-        "(declare-sort S 0)(declare-const c S)(assert (c))",
-        "(check-sat 0)",
-        "(check-sat)(check-sat)",
-        "(check-sat)(declare-sort S 0)",
-        "check-sat",
-        "()",
-        "(check-sat",
-        "(check-sat))",
-        "#(check-sat)",
+        "(declare-sort S 0)(declare-fun p () Bool)(assert (not (not p)))",
+        "(declare-sort S 0)(declare-fun p () Bool)(assert (and p p))",
+        "(declare-sort S 0)(declare-const c S)(assert (= c c))",
+        "(declare-sort S 0)(declare-fun p (S) Bool)(assert (exists ((x S)) (p x)))",
     ];
     for script in scripts {
-        assert!(rt; is_outside(rt.alloc(), script)?, "{script}");
+        let is_outside = is_refused(alloc, SOLVE, script, 0, FaultKind::Unsupported)?;
+        assert!(rt; is_outside, "{script}");
     }
     Ok(())
 }
@@ -307,7 +363,8 @@ fn reserved_words_are_no_names(rt: HostRuntime) -> Result<(), Fail> {
     let alloc = rt.alloc();
     for word in RESERVED.split_whitespace() {
         let script = format!(in alloc; "(declare-sort {word} 0)")?;
-        assert!(rt; is_outside(alloc, script.as_str())?, "{word}");
+        let is_reserved = is_refused(alloc, SOLVE, script.as_str(), 0, FaultKind::ReservedName)?;
+        assert!(rt; is_reserved, "{word}");
     }
     Ok(())
 }
@@ -323,11 +380,28 @@ const DEFINED_TEXT: &str = "(declare-fun f (Int) Int)
 (check-sat)
 ";
 
+/// A script in which a macro, a `let` and a quantifier bind names anew, beside a constant with the name of a variable, and its text.
+const SHADOWED: &str = "(declare-sort S 0)
+(declare-const ?0 S)
+(declare-fun p (S S) Bool)
+(define-fun q ((x S)) Bool (forall ((y S)) (p x y)))
+(assert (! (let ((x ?0) (y ?0)) (forall ((x S)) (or (p x y) (q x)))) :named shadowed))
+(check-sat)";
+
+const SHADOWED_TEXT: &str = "(declare-sort S 0)
+(declare-fun ?0 () S)
+(declare-fun p (S S) Bool)
+(assert (! (forall ((??0 S)) (or (p ??0 ?0) (forall ((??1 S)) (p ??0 ??1)))) :named shadowed))
+(check-sat)
+";
+
 /// What lies outside the first profile is printed all the same, and a text is its own text.
-const PRINTED: [(&str, &str); 4] = [
+const PRINTED: [(&str, &str); 6] = [
     ("", ""),
     (DEFINED, DEFINED_TEXT),
     (DEFINED_TEXT, DEFINED_TEXT),
+    (SHADOWED, SHADOWED_TEXT),
+    (SHADOWED_TEXT, SHADOWED_TEXT),
     (
         "(assert (distinct 1 2 3))",
         "(assert (and (not (= 1 2)) (not (= 1 3)) (not (= 2 3))))\n",
@@ -341,21 +415,6 @@ fn scripts_are_printed(rt: HostRuntime) -> Result<(), Fail> {
         let call = call_run(alloc, PRINT, shelf_of(alloc, script, &[])?, AMPLE)?;
         assert_ended(&rt, &call, Status::Done, text, "");
     }
-    Ok(())
-}
-
-// The second form is the first without a meaning, and begins at its place.
-#[test]
-fn scripts_are_refused_at_their_place(rt: HostRuntime) -> Result<(), Fail> {
-    let alloc = rt.alloc();
-    let refusal = Refusal {
-        at: 32,
-        kind: FaultKind::UnknownName,
-    };
-    let shelf = shelf_of(alloc, "(declare-sort S 0)\n; (assert p)\n(assert q)", &[])?;
-    let call = call_run(alloc, PRINT, shelf, AMPLE)?;
-    let told = "mbqi: refused at 32: UnknownName\n";
-    assert_ended(&rt, &call, Status::ScriptRefused(refusal), "", told);
     Ok(())
 }
 
@@ -401,7 +460,9 @@ fn push_counts(journal: &Journal, counts: &mut Vec<usize>) -> Result<(), AllocEr
 /// The same for a text: nothing where it is refused.
 fn rounds_of(alloc: Global, text: &str) -> Result<Vec<usize>, AllocError> {
     let mut counts = Vec::new(alloc);
-    if let Ok(script) = read_script(alloc, text.as_bytes()) {
+    if let Ok(script) = read_text(alloc, text.as_bytes())
+        && is_elementary(&script)
+    {
         let is_whole = count_added::<Brand>(alloc, &script, &mut counts, Blank::new(1));
         if !is_whole {
             return Err(AllocError);

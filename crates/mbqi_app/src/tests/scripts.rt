@@ -431,3 +431,49 @@ pub const INNER_NAME: Case = Case {
 )
 ",
 };
+
+/// Clauses that are written otherwise: with labels, a macro, a `let`, `=>`, a predicate without arguments, names between bars, and commands
+/// that are passed over.
+pub const OTHER_FORMS: Case = Case {
+    script: "(set-logic UF)
+(declare-sort |the sort| 0)
+(declare-fun c () |the sort|)
+(declare-fun |is red| (|the sort|) Bool)
+(declare-fun on () Bool)
+(define-fun rule ((x |the sort|)) Bool (=> on (|is red| x)))
+(assert (! (forall ((x |the sort|)) (let ((y x)) (rule y))) :named first))
+(assert (or on))
+(assert (! (not (|is red| c)) :named second))
+(check-sat)
+(get-model)
+(exit)
+",
+    answer: "unsat
+(refutation 1
+(instance 1 () on)
+(instance 2 () (not (|is red| c)))
+(instance 0 (c) (or (not on) (|is red| c)))
+(instance 0 ((@seed |the sort|)) (or (not on) (|is red| (@seed |the sort|))))
+)
+",
+};
+
+/// A sort, a constant and a predicate whose names stand between bars; the sort and the predicate have one name.
+pub const BETWEEN_BARS: Case = Case {
+    script: "(declare-sort |the sort| 0)
+(declare-const |a b| |the sort|)
+(declare-fun |the sort| (|the sort|) Bool)
+(declare-fun on () Bool)
+(assert on)
+(assert (not (|the sort| |a b|)))
+(check-sat)
+",
+    answer: "sat
+(model 1
+(sort |the sort| 2)
+(fun |a b| () () @0)
+(fun |the sort| ((@0 @1)) (((@0) false)) false)
+(fun on () ((() true)) false)
+)
+",
+};

@@ -1,4 +1,5 @@
 use Rattle.std.proofs.Common.{map, string_bytes, ap}
+use Rattle.std.specs.Prelude.{None}
 use Rattle.mbqi_app.specs.Command.{Solve, Print, asked_for}
 use Rattle.mbqi_app.specs.Answer.{TookAll, TookFront, IsRefusedAs, names_of}
 use Rattle.mbqi_app.proofs.Solved.{solved, printed, given, one_asked}
@@ -51,3 +52,9 @@ returns-in-Some-Print-clause-refuses g c refusal gives =
     let asked = rw c.in-Some-Print.field-0-is at c.in-Some-Print.ensures in
     c.print.ensures.refuses refusal
     (given (map string_bytes c.args.words.now) (g.F.Shelf.files c.args.shelf.now) (IsRefusedAs refusal) (Print c.in-Some-Print.file.now) asked gives)
+
+pub returns-in-Some-Solve-clause-refuses : goal.returns-in-Some-Solve-clause-refuses
+returns-in-Some-Solve-clause-refuses g c refusal gives =
+    let asked = rw c.in-Some-Solve.field-0-is at c.in-Some-Solve.ensures in
+    c.solve.ensures.refuses refusal
+    (given (map string_bytes c.args.words.now) (g.F.Shelf.files c.args.shelf.now) (IsRefusedAs refusal) (Solve None c.in-Some-Solve.file.now) asked gives)
