@@ -1,3 +1,3 @@
-mod Labelled
+mod LabelTables
 pub mod SortsRead
 pub mod Rows

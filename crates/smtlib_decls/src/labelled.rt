@@ -44,7 +44,7 @@ fn note(labels: &mut NameSet, alloc: Global, label: &Option<Text>) -> Result<(),
 }
 
 /// Adds an assertion at the end, with its label. After want of memory both lists are as before.
-#[tactic(auto, using(crate::proofs::Labelled::front_of_labels))]
+#[tactic(auto, using(crate::proofs::LabelTables::front_of_labels))]
 fn add(
     assertions: &mut Assertions,
     labels: &mut NameSet,
