@@ -1,3 +1,4 @@
+mod FormsRead
 mod LabelTables
 pub mod SortsRead
 pub mod Rows
