@@ -22,34 +22,26 @@ SIZES = [1, 2, 4, 8, 16, 32]
 DECLARED = "".join(f"(declare-const c{i} Int)\n" for i in range(100)) + "(declare-fun p (Int Int) Bool)\n"
 
 
-def many_assertions(size):
-    parts, length, i = [DECLARED], len(DECLARED), 0
+def grown(head, size, part):
+    """The head, and behind it the numbered parts, until the text is long enough."""
+    texts, length, number = [head], len(head), 0
     while length < size:
-        line = f"(assert (or (< c{i % 100} (+ c{i % 97} {i % 1000})) (not (p c{i % 89} {i % 1000}))))\n"
-        parts.append(line)
-        length += len(line)
-        i += 1
-    return "".join(parts)
+        texts.append(part(number))
+        length += len(texts[-1])
+        number += 1
+    return "".join(texts)
+
+
+def many_assertions(size):
+    return grown(DECLARED, size, lambda i: f"(assert (or (< c{i % 100} (+ c{i % 97} {i % 1000})) (not (p c{i % 89} {i % 1000}))))\n")
 
 
 def many_names(size):
-    parts, length, i = [], 0, 0
-    while length < size:
-        line = f"(declare-const name{i} Int)\n(assert (<= name{i} (+ name{i // 2} 7)))\n"
-        parts.append(line)
-        length += len(line)
-        i += 1
-    return "".join(parts)
+    return grown("", size, lambda i: f"(declare-const name{i} Int)\n(assert (<= name{i} (+ name{i // 2} 7)))\n")
 
 
 def long_and(size):
-    parts, length, i = [DECLARED, "(assert (and"], len(DECLARED) + 12, 0
-    while length < size:
-        part = f" (p c{i % 100} {i % 1000})"
-        parts.append(part)
-        length += len(part)
-        i += 1
-    return "".join(parts + ["))\n"])
+    return grown(DECLARED + "(assert (and", size, lambda i: f" (p c{i % 100} {i % 1000})") + "))\n"
 
 
 SHAPES = [("many assertions", many_assertions), ("many names", many_names), ("one long and", long_and)]
