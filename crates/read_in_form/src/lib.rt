@@ -1,0 +1,5 @@
+//! What is read is in form.
+//!
+//! Start with `specs/`. There is no code to run.
+
+#![tactic(auto)]
