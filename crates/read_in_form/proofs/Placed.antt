@@ -1,5 +1,5 @@
 -- What a reader leaves: trees in form, but for the greatest place of a variable, which no reading bounds.
-use Rattle.std.proofs.Common.{◌≡◌, ◌≤◌, ◌<◌, ℕ, ◌+◌, Bool, false, List, [], ◌∷◌, ◌++◌, length, Result, Ok, Some, slice_get}
+use Rattle.std.proofs.Common.{◌≡◌, ◌≤◌, ◌<◌, ℕ, ◌+◌, Bool, false, List, [], ◌∷◌, ◌++◌, length, Ok, Some, slice_get}
 use Rattle.mbqi_terms.specs.declared.formula.Formula.{Formula}
 use Rattle.mbqi_terms.specs.declared.formula.Formula.TheVariants as formula
 use Rattle.mbqi_terms.specs.declared.script.Function.{Function}

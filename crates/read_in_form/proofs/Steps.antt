@@ -1,0 +1,39 @@
+-- What it says of the steps of a reading that it gave something.
+use Rattle.std.proofs.Common.{◌≡◌, Bool, true, false, cond, Result, Ok, Err, refl}
+use Rattle.mbqi_values.specs.declared.fault.FaultKind.{FaultKind}
+use Rattle.smtlib_terms.specs.declared.meaning.Meaning.{Meaning}
+use Rattle.smtlib_terms.specs.declared.meaning.Side.{Side}
+use Rattle.smtlib_terms.specs.declared.meaning.Side.TheVariants.{Meant, Difference}
+use Rattle.smtlib_terms.specs.Names.{◌>>=◌}
+use Rattle.smtlib_terms.specs.Operators.{meant, plainly}
+
+-- a step, and the next one
+pub record Stepped {A B : Type 0} (r : Result A FaultKind) (next : A → Result B FaultKind) (b : B) : Type 0 where
+  pub value : A
+  pub first : r ≡ Ok value
+  pub rest : next value ≡ Ok b
+
+pub stepped : {A B : Type 0} (r : Result A FaultKind) (next : A → Result B FaultKind) (b : B) → (r >>= next) ≡ Ok b → Stepped r next b
+stepped (Ok a) next b is = record { value = a; first = refl; rest = is }
+stepped (Err kind) next b is = cc
+
+-- a test that must hold
+pub passed : {A : Type 0} (test : Bool) (r : Result A FaultKind) (kind : FaultKind) (a : A) → cond test r (Err kind) ≡ Ok a → r ≡ Ok a
+passed true r kind a is = is
+passed false r kind a is = cc
+
+-- a meaning where no difference may stand
+pub plain_side : (r : Result Side FaultKind) (m : Meaning) → (r >>= plainly) ≡ Ok m → r ≡ Ok (Meant m)
+plain_side (Ok (Meant n)) m is = cc
+plain_side (Ok (Difference s t)) m is = cc
+plain_side (Err kind) m is = cc
+
+-- a side that is a meaning
+pub record MeantBy (r : Result Meaning FaultKind) (s : Side) : Type 0 where
+  pub value : Meaning
+  pub first : r ≡ Ok value
+  pub side : s ≡ Meant value
+
+pub meant_by : (r : Result Meaning FaultKind) (s : Side) → meant r ≡ Ok s → MeantBy r s
+meant_by (Ok m) s is = record { value = m; first = refl; side = cc }
+meant_by (Err kind) s is = cc
