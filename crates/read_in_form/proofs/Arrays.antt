@@ -1,6 +1,5 @@
 -- What the words of arrays make of meanings in form is in form.
-use Rattle.std.proofs.Common.{◌≡◌, ℕ, ◌+◌, true, false, cond, eqb, List, [], ◌∷◌, Ok, Err, refl, ap, sym, subst, arith}
-use Rattle.std.proofs.lemmas.Bool.Decides.{nat_tests}
+use Rattle.std.proofs.Common.{◌≡◌, ℕ, ◌+◌, true, false, cond, List, [], ◌∷◌, Ok, Err, refl, sym, subst}
 use Rattle.mbqi_values.specs.declared.fault.FaultKind.TheVariants.{BoundArray, WrongSort}
 use Rattle.mbqi_terms.specs.declared.formula.Formula.{Formula}
 use Rattle.mbqi_terms.specs.declared.formula.Formula.TheBlock.{hidden-the_row-Formula-0}
@@ -23,7 +22,8 @@ use Rattle.smtlib_terms.specs.Operators.{as_plain, constant, constant_of, defaul
 use Rattle.printed_trees.specs.InForm.{HasSort, IsArray, IsElement, IsIndexSort, IsPlainSort}
 use Rattle.printed_trees.specs.Scripts.{IsResultSort}
 use Rattle.read_in_form.proofs.Placed.{AreMeanings, IsMeaning, IsPlaced, IsTermOf}
-use Rattle.read_in_form.proofs.Sums.{not_refused, ok_is, passed, step_of}
+use Rattle.read_in_form.proofs.SameSorts.{one_plain, same_sort}
+use Rattle.read_in_form.proofs.Steps.{not_refused, passed, same_ok, stepped}
 
 -- a term as what it means
 pub term_meant_is : (script : Script) (scope : List Binder) (next : ℕ) (e : Plain) (t : Term) → IsPlainSort script e → HasSort script scope t e → IsMeaning script scope next (term_meant e t)
@@ -31,26 +31,11 @@ term_meant_is script scope next plain.Truth t is h = IsPlaced.atom scope next t 
 term_meant_is script scope next plain.Int t is h = record { is = plain.Int; sort = refl; index = tt; term = h }
 term_meant_is script scope next (plain.Elem s) t is h = record { is = plain.Elem s; sort = refl; index = is; term = h }
 
--- sorts of which the test says that they are one
-eqb_is : (a b : ℕ) → eqb a b ≡ true → a ≡ b
-eqb_is a b is = grind (arith, nat_tests)
-
-plain_is : (e p : Plain) → is_sort (plain_sort e) (plain_sort p) ≡ true → e ≡ p
-plain_is plain.Truth plain.Truth is = refl
-plain_is plain.Truth plain.Int is = cc
-plain_is plain.Truth (plain.Elem t) is = cc
-plain_is plain.Int plain.Truth is = cc
-plain_is plain.Int plain.Int is = refl
-plain_is plain.Int (plain.Elem t) is = cc
-plain_is (plain.Elem s) plain.Truth is = cc
-plain_is (plain.Elem s) plain.Int is = cc
-plain_is (plain.Elem s) (plain.Elem t) is = ap (λ (k : ℕ). plain.Elem k) (eqb_is s t is)
-
 -- what may be an element of an array
 truth_has : (script : Script) (scope : List Binder) (next : ℕ) (f : Formula) (v : Term) → IsPlaced script scope next f → truth_value f ≡ Ok v → IsElement script scope v plain.Truth
 unfolding hidden-the_row-Formula-0 hidden
-truth_has script scope next f v (IsPlaced.truth sc n b) is = subst (λ (u : Term). IsElement script sc u plain.Truth) (ok_is (Ok (term.Truth b)) (term.Truth b) v refl is) (IsElement.truth b)
-truth_has script scope next f v (IsPlaced.atom sc n t h) is = subst (λ (u : Term). IsElement script sc u plain.Truth) (ok_is (Ok t) t v refl is) (IsElement.element t plain.Truth h)
+truth_has script scope next f v (IsPlaced.truth sc n b) is = subst (λ (u : Term). IsElement script sc u plain.Truth) (same_ok (term.Truth b) v is) (IsElement.truth b)
+truth_has script scope next f v (IsPlaced.atom sc n t h) is = subst (λ (u : Term). IsElement script sc u plain.Truth) (same_ok t v is) (IsElement.element t plain.Truth h)
 truth_has script scope next f v (IsPlaced.equal sc n s t e index hs ht) is = cc
 truth_has script scope next f v (IsPlaced.at_most sc n s t hs ht) is = cc
 truth_has script scope next f v (IsPlaced.same sc n a b i e ha hb) is = cc
@@ -65,8 +50,8 @@ truth_has script scope next f v (IsPlaced.existential sc n bs g hs h) is = cc
 sorted_element : (script : Script) (scope : List Binder) (e : Plain) (s : Sort) (t v : Term) → IsTermOf script scope s t → cond (is_sort (plain_sort e) s) (Ok t) (Err WrongSort) ≡ Ok v → IsElement script scope v e
 sorted_element script scope e s t v h is =
     let test = passed (is_sort (plain_sort e) s) (Ok t) WrongSort v is in
-    let same : e ≡ h.is = plain_is e h.is (subst (λ (r : Sort). is_sort (plain_sort e) r ≡ true) h.sort test.0) in
-    subst (λ (u : Term). IsElement script scope u e) (ok_is (Ok t) t v refl test.1) (IsElement.element t e (subst (λ (p : Plain). HasSort script scope t p) (sym same) h.term))
+    let same : e ≡ h.is = one_plain e h.is (same_sort (plain_sort e) (plain_sort h.is) (subst (λ (r : Sort). is_sort (plain_sort e) r ≡ true) h.sort test.0)) in
+    subst (λ (u : Term). IsElement script scope u e) (same_ok t v test.1) (IsElement.element t e (subst (λ (p : Plain). HasSort script scope t p) (sym same) h.term))
 
 element_of : (script : Script) (scope : List Binder) (next : ℕ) (e : Plain) (m : Meaning) (v : Term) → IsMeaning script scope next m → as_plain e m ≡ Ok v → IsElement script scope v e
 element_of script scope next plain.Truth (meaning.Formula f) v h is = truth_has script scope next f v h is
@@ -92,8 +77,8 @@ read_placed : (script : Script) (scope : List Binder) (next other : ℕ) (a i m 
 read_placed script scope next other (meaning.Formula f) i m ha hi is = cc
 read_placed script scope next other (meaning.Term s t) i m ha hi is = cc
 read_placed script scope next other (meaning.Array j e a) i m ha hi is =
-    let index = step_of (as_plain j i) (λ (t : Term). Ok (term_meant e (term.Read a t))) m is in
-    subst (IsMeaning script scope next) (ok_is (Ok (term_meant e (term.Read a index.value))) (term_meant e (term.Read a index.value)) m refl index.rest)
+    let index = stepped (as_plain j i) (λ (t : Term). Ok (term_meant e (term.Read a t))) m is in
+    subst (IsMeaning script scope next) (same_ok (term_meant e (term.Read a index.value)) m index.rest)
     (term_meant_is script scope next e (term.Read a index.value) ha.element
     (HasSort.reading a index.value j e ha.array ha.index (index_of script scope other j i index.value ha.index hi index.first)))
 
@@ -106,7 +91,7 @@ selection_placed script scope next (a ∷ i ∷ v ∷ args) m hs is = cc
 last_placed : (script : Script) (scope : List Binder) (next : ℕ) (e : Plain) (a : ArrayTerm) (m : Meaning) → IsMeaning script scope next (meaning.Array plain.Int e a) → default_of (meaning.Array plain.Int e a) ≡ Ok m → IsMeaning script scope next m
 last_placed script scope next e a m h is =
     let test = not_refused (varies a) (Ok (term_meant e (term.Default a))) BoundArray m is in
-    subst (IsMeaning script scope next) (ok_is (Ok (term_meant e (term.Default a))) (term_meant e (term.Default a)) m refl test.1)
+    subst (IsMeaning script scope next) (same_ok (term_meant e (term.Default a)) m test.1)
     (term_meant_is script scope next e (term.Default a) h.element (HasSort.last a e h.array test.0))
 
 default_placed : (script : Script) (scope : List Binder) (next : ℕ) (a m : Meaning) → IsMeaning script scope next a → default_of a ≡ Ok m → IsMeaning script scope next m
@@ -125,15 +110,15 @@ defaulting_placed script scope next (a ∷ b ∷ args) m hs is = cc
 unbound_placed : (script : Script) (scope : List Binder) (next : ℕ) (i e : Plain) (a : ArrayTerm) (m : Meaning) → IsIndexSort script i → IsPlainSort script e → (varies a ≡ false → IsArray script scope a i e) → unbound i e a ≡ Ok m → IsMeaning script scope next m
 unbound_placed script scope next i e a m index element has is =
     let test = not_refused (varies a) (Ok (meaning.Array i e a)) BoundArray m is in
-    subst (IsMeaning script scope next) (ok_is (Ok (meaning.Array i e a)) (meaning.Array i e a) m refl test.1)
+    subst (IsMeaning script scope next) (same_ok (meaning.Array i e a) m test.1)
     (record { index = index; element = element; array = has test.0; closed = test.0 })
 
 stored_placed : (script : Script) (scope : List Binder) (next other more : ℕ) (a i v m : Meaning) → IsMeaning script scope next a → IsMeaning script scope other i → IsMeaning script scope more v → stored_at a i v ≡ Ok m → IsMeaning script scope next m
 stored_placed script scope next other more (meaning.Formula f) i v m ha hi hv is = cc
 stored_placed script scope next other more (meaning.Term s t) i v m ha hi hv is = cc
 stored_placed script scope next other more (meaning.Array j e a) i v m ha hi hv is =
-    let value = step_of (as_plain e v) (λ (u : Term). as_plain j i >>= (λ (t : Term). unbound j e (array.Store a t u))) m is in
-    let index = step_of (as_plain j i) (λ (t : Term). unbound j e (array.Store a t value.value)) m value.rest in
+    let value = stepped (as_plain e v) (λ (u : Term). as_plain j i >>= (λ (t : Term). unbound j e (array.Store a t u))) m is in
+    let index = stepped (as_plain j i) (λ (t : Term). unbound j e (array.Store a t value.value)) m value.rest in
     unbound_placed script scope next j e (array.Store a index.value value.value) m ha.index ha.element
     (λ closed. IsArray.store a index.value value.value j e ha.array ha.index (index_of script scope other j i index.value ha.index hi index.first) (element_of script scope more e v value.value hv value.first) closed)
     index.rest
@@ -151,7 +136,7 @@ constant_of_placed script scope next sort.Truth v m sorts hv is = cc
 constant_of_placed script scope next sort.Int v m sorts hv is = cc
 constant_of_placed script scope next (sort.Elem k) v m sorts hv is = cc
 constant_of_placed script scope next (sort.Array i e) v m sorts hv is =
-    let value = step_of (as_plain e v) (λ (u : Term). unbound i e (array.Const (sort.Array i e) u)) m is in
+    let value = stepped (as_plain e v) (λ (u : Term). unbound i e (array.Const (sort.Array i e) u)) m is in
     unbound_placed script scope next i e (array.Const (sort.Array i e) value.value) m sorts.0 sorts.1
     (λ closed. IsArray.constant value.value i e sorts.0 sorts.1 (element_of script scope next e v value.value hv value.first) closed)
     value.rest

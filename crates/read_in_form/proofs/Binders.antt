@@ -1,7 +1,6 @@
 -- The binders of a quantifier: their places, their sorts, and what their names stand for in its body.
-use Rattle.std.proofs.Common.{◌≡◌, ◌≢◌, ◌≤◌, ◌<◌, ℕ, suc, ◌+◌, Bool, true, false, cond, eqb, List, [], ◌∷◌, ◌++◌, length, map, Option, Some, Result, Ok, Err, refl, sym, ap, ◌∙◌, subst, arith}
+use Rattle.std.proofs.Common.{◌≡◌, ◌≢◌, ◌≤◌, ◌<◌, ℕ, ◌+◌, Bool, true, false, cond, eqb, List, [], ◌∷◌, ◌++◌, length, map, Option, Some, Ok, Err, refl, subst, arith}
 use Rattle.std.proofs.lemmas.Bool.Decides.{nat_tests}
-use Rattle.mbqi_values.specs.declared.fault.FaultKind.{FaultKind}
 use Rattle.mbqi_values.specs.declared.fault.FaultKind.TheVariants.{BadForm}
 use Rattle.mbqi_terms.specs.declared.script.Script.{Script}
 use Rattle.mbqi_terms.specs.declared.sort.Binder.{Binder}
@@ -9,14 +8,15 @@ use Rattle.mbqi_terms.specs.declared.sort.Sort.{Sort}
 use Rattle.sexpr_text.specs.declared.tree.Sexpr.{Sexpr}
 use Rattle.smtlib_terms.specs.declared.names.Binding.{Binding}
 use Rattle.smtlib_terms.specs.declared.names.Variable.{Variable}
-use Rattle.smtlib_terms.specs.Names.{◌>>=◌, sort_meant}
+use Rattle.smtlib_terms.specs.Names.{◌>>=◌}
 use Rattle.smtlib_terms.specs.Reading.{are_binders, bindable, binder_name, binder_sort, binders_of, binding_of, quantifiable, quantifier_binders, second_sort, trees_in}
 use Rattle.printed_trees.specs.InForm.{ArePlaced, IsVariableSort, sort_at}
 use Rattle.printed_trees.specs.Scripts.{IsResultSort}
 use Rattle.read_in_form.proofs.Placed.{AreBinders, Extends, IsBelow, IsScope}
+use Rattle.read_in_form.proofs.SameSorts.{same_number}
 use Rattle.read_in_form.proofs.Scopes.{scope_more}
 use Rattle.read_in_form.proofs.SortsRead.{quantifiable_is, sort_read_is}
-use Rattle.read_in_form.proofs.Steps.{Stepped, passed, stepped}
+use Rattle.read_in_form.proofs.Steps.{passed, stepped}
 
 abbrev pub binders_in : List Variable → List Binder
 binders_in vs = map (λ (v : Variable). v.binder) vs
@@ -39,7 +39,7 @@ binders_placed script sorts (t ∷ ts) place seen vs fewer is =
     let more = stepped (binders_of ts sorts (place + 1) (seen ++ name.value ∷ [])) (λ (bs : List Variable). Ok (record { name = name.value; binder = record { place = place; sort = own.value } } ∷ bs)) vs name.rest in
     let first : Variable = record { name = name.value; binder = record { place = place; sort = own.value } } in
     let all : first ∷ more.value ≡ vs = cc in
-    subst (λ (us : List Variable). ArePlaced script place (binders_in us)) all
+    subst (λ (us : List Variable). ArePlaced script place (binders_in us)) {x = first ∷ more.value} all
     (refl, quantifiable_is script any.value own.value (second_sort_is script sorts (trees_in t) any.value fewer any.first) own.first, binders_placed script sorts ts (place + 1) (seen ++ name.value ∷ []) more.value fewer more.first)
 
 -- there is at least one
@@ -56,16 +56,13 @@ some_read sorts t ts place seen [] is =
 binders_listed : (script : Script) (sorts : List (List ℕ)) (ts : List Sexpr) (place : ℕ) (vs : List Variable) → length sorts ≤ length script.sorts → cond (are_binders ts) (binders_of ts sorts place []) (Err BadForm) ≡ Ok vs → AreBinders script place (binders_in vs)
 binders_listed script sorts [] place vs fewer is = cc
 binders_listed script sorts (t ∷ ts) place vs fewer is =
-    let read = passed (are_binders (t ∷ ts)) (binders_of (t ∷ ts) sorts place []) BadForm vs is in
+    let read = (passed (are_binders (t ∷ ts)) (binders_of (t ∷ ts) sorts place []) BadForm vs is).1 in
     record { some = some_read sorts t ts place [] vs read; placed = binders_placed script sorts (t ∷ ts) place [] vs fewer read }
 
 pub binders_are_read : (script : Script) (sorts : List (List ℕ)) (t : Sexpr) (place : ℕ) (vs : List Variable) → length sorts ≤ length script.sorts → quantifier_binders t sorts place ≡ Ok vs → AreBinders script place (binders_in vs)
 binders_are_read script sorts t place vs fewer is = binders_listed script sorts (trees_in t) place vs fewer is
 
 -- places that are the same, and others
-eqb_true : (a b : ℕ) → eqb a b ≡ true → a ≡ b
-eqb_true a b e = grind (arith, nat_tests)
-
 other_place : (a b : ℕ) → a ≢ b → eqb a b ≡ false
 other_place a b differ = grind (arith, nat_tests)
 
@@ -74,7 +71,7 @@ same_place a b same = grind (arith, nat_tests)
 
 -- the places of the body's scope are below what comes next
 below_step : (b : Binder) (place next : ℕ) (s : Sort) (more : Option Sort) (own : Bool) → b.place < next → eqb b.place place ≡ own → (more ≡ Some s → place < next) → cond own (Some b.sort) more ≡ Some s → place < next
-below_step b place next s more true before is later found = let same = eqb_true b.place place is in omega arith
+below_step b place next s more true before is later found = let same = same_number b.place place is in omega arith
 below_step b place next s more false before is later found = later found
 
 pub body_below : (script : Script) (next : ℕ) (bs scope : List Binder) → ArePlaced script next bs → IsBelow next scope → IsBelow (next + length bs) (bs ++ scope)

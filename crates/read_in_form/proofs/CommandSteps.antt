@@ -1,5 +1,5 @@
 -- What a command adds to what was read so far, where it has a meaning.
-use Rattle.std.proofs.Common.{◌≡◌, ℕ, zero, suc, ◌+◌, Bool, true, false, ◌&&◌, List, [], ◌∷◌, drop, Option, None, Some, IfSome, Result, Ok, Err, refl, ap, ◌∙◌, subst}
+use Rattle.std.proofs.Common.{◌≡◌, ℕ, zero, suc, ◌+◌, Bool, true, false, ◌&&◌, List, [], ◌∷◌, drop, Option, None, Some, IfSome, Result, Ok, Err, ap, ◌∙◌, subst}
 use Rattle.std.specs.Prelude.{codes, if◌then◌else◌}
 use Rattle.std.specs.List.{AllByRecursion, list_all, list_any, position}
 use Rattle.mbqi_values.specs.declared.fault.FaultKind.{FaultKind}
@@ -24,6 +24,7 @@ use Rattle.smtlib_decls.specs.declared.progress.Progress.{Progress}
 use Rattle.smtlib_decls.specs.Commands.{asserted, assertion_command, by_command, command_meant, command_of, constant_command, constant_declared, definition_behind, definition_command, function_command, headed, is_numeral, is_zero, question_command, renamed, signature_command, signature_declared, sort_command, sorts_read, with_assertion, with_names}
 use Rattle.smtlib_decls.specs.Labels.{attributes_in, first_symbol, is_named, is_taken, label_at, label_of}
 use Rattle.read_in_form.proofs.LegalNames.{AreLegal, text_legal, trees_legal}
+use Rattle.read_in_form.proofs.Steps.{not_refused, passed, same_ok, stepped}
 
 -- A text that a symbol may have.
 abbrev pub IsLegalText : List ℕ → Type 0
@@ -59,38 +60,21 @@ with_question p = record { names = p.names; assertions = p.assertions; asks = tr
 
 -- The steps that commands take.
 pub data IsStep (p : Progress) : Progress → Type 0 where
-  passed : IsStep p p
+  passed_over : IsStep p p
   sort : (name : List ℕ) → IsNew (is_one_of p.names.sorts name) name → IsStep p (with_names p (with_sort p.names name))
   function : (f : Function) → IsNewFunction p.names f → IsStep p (with_names p (with_function p.names f))
   definition : (m : Macro) → IsStep p (with_names p (with_definition p.names m))
   assertion : (label : Option (List ℕ)) (f : Formula) → IsNewAssertion p label f → IsStep p (with_assertion p label f)
   question : IsStep p (with_question p)
 
--- A reading in two steps, and one behind a test.
-step_back : {A B : Type 0} (r : Result A FaultKind) (next : A → Result B FaultKind) (b : B) → (r >>= next) ≡ Ok b → (a : A) × (r ≡ Ok a) × (next a ≡ Ok b)
-step_back (Ok a) next b e = (a, refl, e)
-step_back (Err kind) next b e = cc
-
-if_passed : {A : Type 0} (test : Bool) (result : Result A FaultKind) (kind : FaultKind) (a : A) → (if test then result else Err kind) ≡ Ok a → (test ≡ true) × (result ≡ Ok a)
-if_passed true result kind a e = (refl, e)
-if_passed false result kind a e = cc
-
-unless_refused : {A : Type 0} (test : Bool) (result : Result A FaultKind) (kind : FaultKind) (a : A) → (if test then Err kind else result) ≡ Ok a → (test ≡ false) × (result ≡ Ok a)
-unless_refused true result kind a e = cc
-unless_refused false result kind a e = (refl, e)
-
-same_ok : {A : Type 0} (a b : A) → ◌≡◌ {A = Result A FaultKind} (Ok a) (Ok b) → a ≡ b
-same_ok a b e = cc
-
--- A name that is declared.
 declared_new : {A : Type 0} (name : List ℕ) (taken : Bool) (result after : A) → IsLegalText name → declarable name taken result ≡ Ok after → IsNew taken name × (result ≡ after)
 declared_new name taken result after legal e =
-    let free = unless_refused (is_reserved name) _ ReservedName after e in
-    let new = unless_refused taken _ Twice after free.1 in
+    let free = not_refused (is_reserved name) _ ReservedName after e in
+    let new = not_refused taken _ Twice after free.1 in
     (record { legal = legal; free = free.0; new = new.0 }, same_ok result after new.1)
 
 renamed_back : (p : Progress) (meant : Result Declarations FaultKind) (next : Progress) → renamed p meant ≡ Ok next → (d : Declarations) × (meant ≡ Ok d) × (with_names p d ≡ next)
-renamed_back p meant next e = let one = step_back meant (λ names. Ok (with_names p names)) next e in (one.0, one.1, same_ok _ _ one.2)
+renamed_back p meant next e = let one = stepped meant (λ names. Ok (with_names p names)) next e in (one.value, one.first, same_ok _ _ one.rest)
 
 -- Sorts.
 sort_new : (d : Declarations) (name : List ℕ) (after : Declarations) → IsLegalText name → sort_declared d name ≡ Ok after → IsNew (is_one_of d.sorts name) name × (with_sort d name ≡ after)
@@ -101,9 +85,9 @@ sort_steps : (p : Progress) (parts : List Sexpr) (next : Progress) → AllByRecu
 sort_steps p [] next legal e = cc
 sort_steps p (name ∷ []) next legal e = cc
 sort_steps p (name ∷ arity ∷ []) next legal e =
-    let shaped = if_passed (is_some_symbol name && is_numeral arity) _ BadForm next e in
-    let flat = if_passed (is_zero arity) _ Unsupported next shaped.1 in
-    let before = unless_refused p.asks _ Unsupported next flat.1 in
+    let shaped = passed (is_some_symbol name && is_numeral arity) _ BadForm next e in
+    let flat = passed (is_zero arity) _ Unsupported next shaped.1 in
+    let before = not_refused p.asks _ Unsupported next flat.1 in
     let back = renamed_back p (sort_declared p.names (text_of name)) next before.1 in
     let new = sort_new p.names (text_of name) back.0 (text_legal name legal.0) back.1 in
     subst (IsStep p) (ap (with_names p) new.1 ∙ back.2) (IsStep.sort (text_of name) new.0)
@@ -113,7 +97,7 @@ sort_steps p (name ∷ arity ∷ part ∷ parts) next legal e = cc
 function_new : (d : Declarations) (f : Function) (after : Declarations) → IsLegalText f.name → AllByRecursion (IsNamedSort d) f.args → IsNamedSort d f.result → function_declared d f ≡ Ok after → IsNewFunction d f × (with_function d f ≡ after)
 unfolding function_declared
 function_new d f after legal args result e =
-    let supported = if_passed (is_supported f.args f.result) _ Unsupported after e in
+    let supported = passed (is_supported f.args f.result) _ Unsupported after e in
     let new = declared_new f.name (is_function d f.name) (with_function d f) after legal supported.1 in
     (record { name = new.0; supported = supported.0; args = args; result = result }, new.1)
 
@@ -121,7 +105,7 @@ function_steps : (p : Progress) (name : List ℕ) (args : List Sort) (result : S
 unfolding function_command
 function_steps p name args result next legal are is e =
     let f : Function = record { name = name; args = args; result = result } in
-    let before = unless_refused p.asks _ Unsupported next e in
+    let before = not_refused p.asks _ Unsupported next e in
     let back = renamed_back p (function_declared p.names f) next before.1 in
     let new = function_new p.names f back.0 legal are is back.1 in
     subst (IsStep p) (ap (with_names p) new.1 ∙ back.2) (IsStep.function f new.0)
@@ -129,36 +113,36 @@ function_steps p name args result next legal are is e =
 constant_read : (p : Progress) (name : List ℕ) (t : Sexpr) (next : Progress) → IsLegalText name → constant_declared p name t ≡ Ok next → IsStep p next
 unfolding constant_declared
 constant_read p name t next legal e =
-    let one = step_back (sort_read p.names t) (λ s. function_command p name [] s) next e in
-    function_steps p name [] one.0 next legal tt (record { tree = t; read = one.1 }) one.2
+    let one = stepped (sort_read p.names t) (λ s. function_command p name [] s) next e in
+    function_steps p name [] one.value next legal tt (record { tree = t; read = one.first }) one.rest
 
 constant_steps : (p : Progress) (parts : List Sexpr) (next : Progress) → AllByRecursion AreLegal parts → constant_command p parts ≡ Ok next → IsStep p next
 constant_steps p [] next legal e = cc
 constant_steps p (name ∷ []) next legal e = cc
 constant_steps p (name ∷ t ∷ []) next legal e =
-    constant_read p (text_of name) t next (text_legal name legal.0) (if_passed (is_some_symbol name) _ BadForm next e).1
+    constant_read p (text_of name) t next (text_legal name legal.0) (passed (is_some_symbol name) _ BadForm next e).1
 constant_steps p (name ∷ t ∷ part ∷ parts) next legal e = cc
 
 sorts_are_read : (d : Declarations) (ts : List Sexpr) (ss : List Sort) → sorts_read d ts ≡ Ok ss → AllByRecursion (IsNamedSort d) ss
 sorts_are_read d [] ss e = let same : [] ≡ ss = same_ok _ _ e in subst (AllByRecursion (IsNamedSort d)) same tt
 sorts_are_read d (t ∷ ts) ss e =
-    let one = step_back (sort_read d t) (λ s. sorts_read d ts >>= (λ more. Ok (s ∷ more))) ss e in
-    let two = step_back (sorts_read d ts) (λ more. Ok (one.0 ∷ more)) ss one.2 in
-    subst (AllByRecursion (IsNamedSort d)) (same_ok _ _ two.2) (record { tree = t; read = one.1 }, sorts_are_read d ts two.0 two.1)
+    let one = stepped (sort_read d t) (λ s. sorts_read d ts >>= (λ more. Ok (s ∷ more))) ss e in
+    let two = stepped (sorts_read d ts) (λ more. Ok (one.value ∷ more)) ss one.rest in
+    subst (AllByRecursion (IsNamedSort d)) (same_ok _ _ two.rest) (record { tree = t; read = one.first }, sorts_are_read d ts two.value two.first)
 
 signature_read : (p : Progress) (name : List ℕ) (args : List Sexpr) (result : Sexpr) (next : Progress) → IsLegalText name → signature_declared p name args result ≡ Ok next → IsStep p next
 unfolding signature_declared
 signature_read p name args result next legal e =
-    let one = step_back (sorts_read p.names args) (λ ss. sort_read p.names result >>= (λ s. function_command p name ss s)) next e in
-    let two = step_back (sort_read p.names result) (λ s. function_command p name one.0 s) next one.2 in
-    function_steps p name one.0 two.0 next legal (sorts_are_read p.names args one.0 one.1) (record { tree = result; read = two.1 }) two.2
+    let one = stepped (sorts_read p.names args) (λ ss. sort_read p.names result >>= (λ s. function_command p name ss s)) next e in
+    let two = stepped (sort_read p.names result) (λ s. function_command p name one.value s) next one.rest in
+    function_steps p name one.value two.value next legal (sorts_are_read p.names args one.value one.first) (record { tree = result; read = two.first }) two.rest
 
 signature_steps : (p : Progress) (parts : List Sexpr) (next : Progress) → AllByRecursion AreLegal parts → signature_command p parts ≡ Ok next → IsStep p next
 signature_steps p [] next legal e = cc
 signature_steps p (name ∷ []) next legal e = cc
 signature_steps p (name ∷ args ∷ []) next legal e = cc
 signature_steps p (name ∷ args ∷ result ∷ []) next legal e =
-    signature_read p (text_of name) (trees_in args) result next (text_legal name legal.0) (if_passed (is_some_symbol name && is_list args) _ BadForm next e).1
+    signature_read p (text_of name) (trees_in args) result next (text_legal name legal.0) (passed (is_some_symbol name && is_list args) _ BadForm next e).1
 signature_steps p (name ∷ args ∷ result ∷ part ∷ parts) next legal e = cc
 
 -- Definitions.
@@ -167,21 +151,21 @@ IsDefined d after = (m : Macro) × (with_definition d m ≡ after)
 
 defined_back : (d : Declarations) (m : Macro) (meaning : Meaning) (after : Declarations) → defined d m meaning ≡ Ok after → IsDefined d after
 defined_back d m meaning after e =
-    let one = step_back (declarable m.name (is_function d m.name) (with_definition d m)) (λ after. if is_sort m.result (sort_of meaning) then Ok after else Err WrongSort) after e in
-    let free = unless_refused (is_reserved m.name) _ ReservedName one.0 one.1 in
-    let new = unless_refused (is_function d m.name) _ Twice one.0 free.1 in
-    let kept = if_passed (is_sort m.result (sort_of meaning)) _ WrongSort after one.2 in
+    let one = stepped (declarable m.name (is_function d m.name) (with_definition d m)) (λ after. if is_sort m.result (sort_of meaning) then Ok after else Err WrongSort) after e in
+    let free = not_refused (is_reserved m.name) _ ReservedName one.value one.first in
+    let new = not_refused (is_function d m.name) _ Twice one.value free.1 in
+    let kept = passed (is_sort m.result (sort_of meaning)) _ WrongSort after one.rest in
     (m, same_ok _ _ new.1 ∙ same_ok _ _ kept.1)
 
 body_back : (d : Declarations) (m : Macro) (after : Declarations) → body_defined d m ≡ Ok after → IsDefined d after
-body_back d m after e = let one = step_back _ (defined d m) after e in defined_back d m one.0 after one.2
+body_back d m after e = let one = stepped _ (defined d m) after e in defined_back d m one.value after one.rest
 
 definition_back : (d : Declarations) (name : List ℕ) (parameters : List Sexpr) (result body : Sexpr) (after : Declarations) → definition_read d name parameters result body ≡ Ok after → IsDefined d after
 definition_back d name parameters result body after e =
     let macro_of : List Parameter → Sort → Macro = λ ps s. record { name = name; parameters = ps; result = s; body = body } in
-    let one = step_back (parameters_of parameters d.sorts []) (λ ps. sort_meant result d.sorts >>= (λ s. body_defined d (macro_of ps s))) after e in
-    let two = step_back (sort_meant result d.sorts) (λ s. body_defined d (macro_of one.0 s)) after one.2 in
-    body_back d (macro_of one.0 two.0) after two.2
+    let one = stepped (parameters_of parameters d.sorts []) (λ ps. sort_meant result d.sorts >>= (λ s. body_defined d (macro_of ps s))) after e in
+    let two = stepped (sort_meant result d.sorts) (λ s. body_defined d (macro_of one.value s)) after one.rest in
+    body_back d (macro_of one.value two.value) after two.rest
 
 macro_back : (d : Declarations) (trees : List Sexpr) (after : Declarations) → definition_of d trees ≡ Ok after → IsDefined d after
 macro_back d [] after e = cc
@@ -189,14 +173,14 @@ macro_back d (a ∷ []) after e = cc
 macro_back d (a ∷ b ∷ []) after e = cc
 macro_back d (a ∷ b ∷ c ∷ []) after e = cc
 macro_back d (a ∷ b ∷ c ∷ r ∷ []) after e = cc
-macro_back d (head ∷ name ∷ parameters ∷ result ∷ body ∷ []) after e = definition_back d (text_of name) (trees_in parameters) result body after (if_passed _ _ BadForm after e).1
+macro_back d (head ∷ name ∷ parameters ∷ result ∷ body ∷ []) after e = definition_back d (text_of name) (trees_in parameters) result body after (passed _ _ BadForm after e).1
 macro_back d (a ∷ b ∷ c ∷ r ∷ s ∷ t ∷ ts) after e = cc
 
 never_behind : (p : Progress) (t : Sexpr) (next : Progress) → definition_behind p t ≡ Ok next → ⊥
 unfolding definition_behind
 never_behind p t next e =
-    let one = step_back (definition_parts p.names t) (λ u. Err Unsupported) next e in
-    let other : ◌≡◌ {A = Result Progress FaultKind} (Err Unsupported) (Ok next) = one.2 in cc
+    let one = stepped (definition_parts p.names t) (λ u. Err Unsupported) next e in
+    let other : ◌≡◌ {A = Result Progress FaultKind} (Err Unsupported) (Ok next) = one.rest in cc
 
 definition_steps : (p : Progress) (t : Sexpr) (next : Progress) → definition_command p t ≡ Ok next → IsStep p next
 definition_steps p t next e = go p.asks e
@@ -226,13 +210,13 @@ drop_legal (suc n) (t ∷ ts) legal = drop_legal n ts legal.1
 label_first : (ts : List Sexpr) (label : Option (List ℕ)) → AllByRecursion AreLegal ts → first_symbol ts ≡ Ok label → IfSome label IsLegalText
 label_first [] label legal e = cc
 label_first (t ∷ ts) label legal e =
-    let same : Some (text_of t) ≡ label = same_ok _ _ (if_passed (is_some_symbol t) _ BadForm label e).1 in
+    let same : Some (text_of t) ≡ label = same_ok _ _ (passed (is_some_symbol t) _ BadForm label e).1 in
     subst (λ (l : Option (List ℕ)). IfSome l IsLegalText) same (text_legal t legal.0)
 
 label_legal_at : (ts : List Sexpr) (at : Option ℕ) (label : Option (List ℕ)) → AllByRecursion AreLegal ts → label_at ts at ≡ Ok label → IfSome label IsLegalText
 label_legal_at ts None label legal e = let same : None ≡ label = same_ok _ _ e in subst (λ (l : Option (List ℕ)). IfSome l IsLegalText) same tt
 label_legal_at ts (Some at) label legal e =
-    label_first (drop (at + 1) ts) label (drop_legal (at + 1) ts legal) (unless_refused (list_any is_named (drop (at + 1) ts)) _ BadForm label e).1
+    label_first (drop (at + 1) ts) label (drop_legal (at + 1) ts legal) (not_refused (list_any is_named (drop (at + 1) ts)) _ BadForm label e).1
 
 label_legal : (t : Sexpr) (label : Option (List ℕ)) → AreLegal t → label_of t ≡ Ok label → IfSome label IsLegalText
 unfolding label_of
@@ -242,25 +226,25 @@ label_legal t label legal e =
 -- Assertions.
 asserted_step : (p : Progress) (label : Option (List ℕ)) (f : Formula) (t : Sexpr) (next : Progress) → formula_read p.names t ≡ Ok f → IfSome label IsLegalText → asserted p label f ≡ Ok next → IsStep p next
 asserted_step p label f t next read legal e =
-    let before = unless_refused p.asks _ Unsupported next e in
-    let new = unless_refused (is_taken label p.assertions) _ Twice next before.1 in
+    let before = not_refused p.asks _ Unsupported next e in
+    let new = not_refused (is_taken label p.assertions) _ Twice next before.1 in
     subst (IsStep p) (same_ok _ _ new.1) (IsStep.assertion label f (record { tree = t; read = read; legal = legal; new = new.0 }))
 
 assertion_steps : (p : Progress) (parts : List Sexpr) (next : Progress) → AllByRecursion AreLegal parts → assertion_command p parts ≡ Ok next → IsStep p next
 assertion_steps p [] next legal e = cc
 assertion_steps p (t ∷ []) next legal e =
-    let one = step_back (label_of t) (λ label. formula_read p.names t >>= (λ f. asserted p label f)) next e in
-    let two = step_back (formula_read p.names t) (λ f. asserted p one.0 f) next one.2 in
-    asserted_step p one.0 two.0 t next two.1 (label_legal t one.0 legal.0 one.1) two.2
+    let one = stepped (label_of t) (λ label. formula_read p.names t >>= (λ f. asserted p label f)) next e in
+    let two = stepped (formula_read p.names t) (λ f. asserted p one.value f) next one.rest in
+    asserted_step p one.value two.value t next two.first (label_legal t one.value legal.0 one.first) two.rest
 assertion_steps p (t ∷ part ∷ parts) next legal e = cc
 
 question_steps : (p : Progress) (parts : List Sexpr) (next : Progress) → question_command p parts ≡ Ok next → IsStep p next
-question_steps p [] next e = subst (IsStep p) (same_ok _ _ (unless_refused p.asks _ Unsupported next e).1) (IsStep.question)
+question_steps p [] next e = subst (IsStep p) (same_ok _ _ (not_refused p.asks _ Unsupported next e).1) (IsStep.question)
 question_steps p (part ∷ parts) next e = cc
 
 -- Any command.
 command_steps_by : (c : Command) (p : Progress) (t : Sexpr) (parts : List Sexpr) (next : Progress) → AllByRecursion AreLegal parts → by_command c p t parts ≡ Ok next → IsStep p next
-command_steps_by command.PassedOver p t parts next legal e = subst (IsStep p) (same_ok p next e) (IsStep.passed)
+command_steps_by command.PassedOver p t parts next legal e = subst (IsStep p) (same_ok p next e) (IsStep.passed_over)
 command_steps_by command.DeclareSort p t parts next legal e = sort_steps p parts next legal e
 command_steps_by command.DeclareConst p t parts next legal e = constant_steps p parts next legal e
 command_steps_by command.DeclareFun p t parts next legal e = signature_steps p parts next legal e
@@ -273,7 +257,7 @@ command_steps_by command.Unknown p t parts next legal e = cc
 headed_steps : (p : Progress) (t : Sexpr) (ts : List Sexpr) (next : Progress) → AllByRecursion AreLegal ts → headed p t ts ≡ Ok next → IsStep p next
 headed_steps p t [] next legal e = cc
 headed_steps p t (head ∷ parts) next legal e =
-    command_steps_by (command_of (text_of head)) p t parts next legal.1 (if_passed (is_some_symbol head) _ BadForm next e).1
+    command_steps_by (command_of (text_of head)) p t parts next legal.1 (passed (is_some_symbol head) _ BadForm next e).1
 
 pub command_steps : (p : Progress) (t : Sexpr) (next : Progress) → AreLegal t → command_meant p t ≡ Ok next → IsStep p next
 unfolding command_meant

@@ -1,7 +1,6 @@
 -- Comparisons over meanings that are placed one behind the other: each argument stands in several atoms.
-use Rattle.std.proofs.Common.{◌≡◌, ◌≤◌, ℕ, suc, ◌+◌, Bool, true, false, cond, leb, ◌&&◌, ◌||◌, List, [], ◌∷◌, ◌++◌, length, map, Result, Ok, Err, refl, ap, sym, subst, ◌∙◌, arith}
-use Rattle.std.specs.List.{list_all, list_any}
-use Rattle.mbqi_values.specs.declared.fault.FaultKind.{FaultKind}
+use Rattle.std.proofs.Common.{◌≡◌, ◌≤◌, ℕ, suc, ◌+◌, true, false, cond, leb, List, [], ◌∷◌, ◌++◌, length, map, Ok, Err, refl, ap, sym, subst, ◌∙◌, arith}
+use Rattle.std.specs.List.{list_any}
 use Rattle.mbqi_values.specs.declared.fault.FaultKind.TheVariants.{QuantifierPlace, WrongCount, WrongSort}
 use Rattle.mbqi_terms.specs.declared.formula.Formula.{Formula}
 use Rattle.mbqi_terms.specs.declared.formula.Formula.TheVariants as formula
@@ -17,13 +16,14 @@ use Rattle.smtlib_terms.specs.declared.meaning.Meaning.{Meaning}
 use Rattle.smtlib_terms.specs.declared.meaning.Meaning.TheVariants as meaning
 use Rattle.smtlib_terms.specs.Meaning.{sort_of, variables_in, variables_of}
 use Rattle.smtlib_terms.specs.Names.{◌>>=◌, is_sort, plain_sort}
-use Rattle.smtlib_terms.specs.Operators.{all_of, as_integer, as_integers, at_least, at_most, below, chain, chained, compared_by, equality, have_one_sort, have_sort, inequality, is_quantified_meaning, ordered_by, pairs}
+use Rattle.smtlib_terms.specs.Operators.{all_of, as_integer, as_integers, at_least, at_most, below, chain, chained, compared_by, equality, have_sort, inequality, is_quantified_meaning, ordered_by, pairs}
 use Rattle.measured_terms.proofs.FormulaLaws as formula_measure
 use Rattle.printed_trees.specs.InForm.{HasSort, IsArray, IsIndexSort}
-use Rattle.read_in_form.proofs.Connectives.{AreStill, IsStill, closed_by_test, either_false, enough, joined_placed, none_quantified, still_placed}
+use Rattle.read_in_form.proofs.Connectives.{AreStill, IsStill, closed_by_test, enough, joined_placed, still_placed}
 use Rattle.read_in_form.proofs.Placed.{AreMeanings, IsArrayOf, IsMeaning, IsPlaced, IsTermOf}
-use Rattle.read_in_form.proofs.SameSorts.{same_sort}
-use Rattle.read_in_form.proofs.Steps.{Stepped, passed, stepped}
+use Rattle.read_in_form.proofs.SameSorts.{one_plain, same_sort}
+use Rattle.read_in_form.proofs.Steps.{both_true, neither, not_refused, passed, same_ok, stepped}
+use Rattle.read_in_form.proofs.Sums.{AreIntegers, integers_of}
 
 -- meanings that bind no variable, all of one sort
 pub record IsStillMeaning (script : Script) (scope : List Binder) (next : ℕ) (s : Sort) (m : Meaning) : Type 0 where
@@ -40,15 +40,11 @@ closed_meaning (meaning.Formula f) is = closed_by_test f is
 closed_meaning (meaning.Term s t) is = refl
 closed_meaning (meaning.Array i e a) is = refl
 
-both_true : (a b : Bool) → (a && b) ≡ true → (a ≡ true) × (b ≡ true)
-both_true true b e = (refl, e)
-both_true false b e = cc
-
 still_meanings : (script : Script) (scope : List Binder) (next : ℕ) (s : Sort) (ms : List Meaning) → AreMeanings script scope next ms → have_sort s ms ≡ true → list_any is_quantified_meaning ms ≡ false → AreStillMeanings script scope next s ms
 still_meanings script scope next s [] are sorts none = tt
 still_meanings script scope next s (m ∷ ms) are sorts none =
     let sort = both_true (is_sort s (sort_of m)) (have_sort s ms) sorts in
-    let closed = either_false (is_quantified_meaning m) (list_any is_quantified_meaning ms) none in
+    let closed = neither (is_quantified_meaning m) (list_any is_quantified_meaning ms) none in
     let own = closed_meaning m closed.0 in
     let here : next + variables_of m ≡ next = omega arith in
     (record { is = are.0; closed = own; sort = same_sort s (sort_of m) sort.0 },
@@ -64,17 +60,6 @@ no_array : (p : Plain) (i e : Plain) → sort.Array i e ≡ plain_sort p → ⊥
 no_array plain.Truth i e same = cc
 no_array plain.Int i e same = cc
 no_array (plain.Elem s) i e same = cc
-
-pub one_plain : (p q : Plain) → plain_sort p ≡ plain_sort q → p ≡ q
-one_plain plain.Truth plain.Truth same = refl
-one_plain plain.Truth plain.Int same = cc
-one_plain plain.Truth (plain.Elem t) same = cc
-one_plain plain.Int plain.Truth same = cc
-one_plain plain.Int plain.Int same = refl
-one_plain plain.Int (plain.Elem t) same = cc
-one_plain (plain.Elem s) plain.Truth same = cc
-one_plain (plain.Elem s) plain.Int same = cc
-one_plain (plain.Elem s) (plain.Elem t) same = cc
 
 terms_equal : (script : Script) (scope : List Binder) (next : ℕ) (s r : Sort) (t u : Term) → s ≡ r → IsTermOf script scope s t → IsTermOf script scope r u → IsStill script scope next (formula.Equal t u)
 terms_equal script scope next s r t u same one two =
@@ -135,20 +120,16 @@ all_still : (script : Script) (scope : List Binder) (next : ℕ) (fs : List Form
 all_still script scope next fs some still =
     joined_placed script scope next formula.All (λ f g rest placed. IsPlaced.conjunction scope next f g rest placed) fs some (still_placed script scope next fs still)
 
-sorts_agree : (test : Bool) (r : Result Formula FaultKind) (f : Formula) → cond test r (Err WrongSort) ≡ Ok f → (test ≡ true) × (r ≡ Ok f)
-sorts_agree true r f is = (refl, is)
-sorts_agree false r f is = cc
-
 compared : (script : Script) (scope : List Binder) (next : ℕ) (relation : List Meaning → List Formula) → ((s : Sort) (m n : Meaning) (ms : List Meaning) → AreStillMeanings script scope next s (m ∷ n ∷ ms) → AreStill script scope next (relation (m ∷ n ∷ ms))) → ((m n : Meaning) (ms : List Meaning) → 1 ≤ length (relation (m ∷ n ∷ ms))) →
     (args : List Meaning) (f : Formula) → AreMeanings script scope next args → at_least 2 args (compared_by relation args) ≡ Ok f → IsPlaced script scope next f
 compared script scope next relation still some [] f are is = cc
 compared script scope next relation still some (m ∷ []) f are is = cc
 compared script scope next relation still some (m ∷ n ∷ ms) f are is =
     let args = m ∷ n ∷ ms in
-    let enough_read = passed (leb 2 (length args)) (compared_by relation args) WrongCount f is in
-    let sorted = sorts_agree (have_sort (sort_of m) (n ∷ ms)) (cond (list_any is_quantified_meaning args) (Err QuantifierPlace) (Ok (all_of (relation args)))) f enough_read in
-    let none = none_quantified (list_any is_quantified_meaning args) (Ok (all_of (relation args))) f sorted.1 in
-    let closed = either_false (is_quantified_meaning m) (list_any is_quantified_meaning (n ∷ ms)) none.0 in
+    let read = passed (leb 2 (length args)) (compared_by relation args) WrongCount f is in
+    let sorted = passed (have_sort (sort_of m) (n ∷ ms)) (cond (list_any is_quantified_meaning args) (Err QuantifierPlace) (Ok (all_of (relation args)))) WrongSort f read.1 in
+    let none = not_refused (list_any is_quantified_meaning args) (Ok (all_of (relation args))) QuantifierPlace f sorted.1 in
+    let closed = neither (is_quantified_meaning m) (list_any is_quantified_meaning (n ∷ ms)) none.0 in
     let own = closed_meaning m closed.0 in
     let here : next + variables_of m ≡ next = omega arith in
     let first : IsStillMeaning script scope next (sort_of m) m = record { is = are.0; closed = own; sort = refl } in
@@ -164,31 +145,14 @@ pub difference_placed : (script : Script) (scope : List Binder) (next : ℕ) (ar
 difference_placed script scope next args f are is =
     compared script scope next (pairs inequality) (λ s m n ms all. pairs_still script scope next s (m ∷ n ∷ ms) all) (λ m n ms. omega arith) args f are is
 
--- integers, in order
-abbrev AreIntegers : Script → List Binder → List Term → Type 0
-AreIntegers script scope [] = Unit {0}
-AreIntegers script scope (t ∷ ts) = HasSort script scope t plain.Int × AreIntegers script scope ts
-
-pub integer_sorted : (script : Script) (scope : List Binder) (next : ℕ) (m : Meaning) (t : Term) → IsMeaning script scope next m → as_integer m ≡ Ok t → HasSort script scope t plain.Int
-integer_sorted script scope next (meaning.Formula f) t is e = cc
-integer_sorted script scope next (meaning.Term sort.Truth u) t is e = cc
-integer_sorted script scope next (meaning.Term sort.Int u) t is e =
-    let same : u ≡ t = cc in
-    let plainly : is.is ≡ plain.Int = one_plain is.is plain.Int (sym is.sort) in
-    subst (λ (v : Term). HasSort script scope v plain.Int) same (subst (HasSort script scope u) plainly is.term)
-integer_sorted script scope next (meaning.Term (sort.Elem s) u) t is e = cc
-integer_sorted script scope next (meaning.Term (sort.Array i d) u) t is e = cc
-integer_sorted script scope next (meaning.Array i d a) t is e = cc
-
-integers_sorted : (script : Script) (scope : List Binder) (next : ℕ) (ms : List Meaning) (ts : List Term) → AreMeanings script scope next ms → as_integers ms ≡ Ok ts → AreIntegers script scope ts × (length ms ≡ length ts)
-integers_sorted script scope next [] [] are is = (tt, refl)
-integers_sorted script scope next [] (t ∷ ts) are is = cc
-integers_sorted script scope next (m ∷ ms) ts are is =
+-- integers, as many as the meanings
+integers_count : (ms : List Meaning) (ts : List Term) → as_integers ms ≡ Ok ts → length ms ≡ length ts
+integers_count [] [] is = refl
+integers_count [] (t ∷ ts) is = cc
+integers_count (m ∷ ms) ts is =
     let first = stepped (as_integer m) (λ (t : Term). as_integers ms >>= (λ (us : List Term). Ok (t ∷ us))) ts is in
     let rest = stepped (as_integers ms) (λ (us : List Term). Ok (first.value ∷ us)) ts first.rest in
-    let all : first.value ∷ rest.value ≡ ts = cc in
-    let more = integers_sorted script scope (next + variables_of m) ms rest.value are.1 rest.first in
-    subst (λ (us : List Term). AreIntegers script scope us × (suc (length ms) ≡ length us)) all ((integer_sorted script scope next m first.value are.0 first.first, more.0), ap suc more.1)
+    ap suc (integers_count ms rest.value rest.first) ∙ ap (λ (us : List Term). length us) (same_ok (first.value ∷ rest.value) ts rest.rest)
 
 -- `<=`, `<`, `>=` and `>`
 pub record IsOrder (script : Script) (scope : List Binder) (relation : Term → Term → Formula) : Type 0 where
@@ -209,11 +173,11 @@ terms_ordered script scope next relation order (t ∷ u ∷ ts) some are =
 pub ordered_placed : (script : Script) (scope : List Binder) (next : ℕ) (relation : Term → Term → Formula) → IsOrder script scope relation → (args : List Meaning) (f : Formula) → AreMeanings script scope next args → at_least 2 args (ordered_by relation args) ≡ Ok f → IsPlaced script scope next f
 ordered_placed script scope next relation order args f are is =
     let some = enough 2 args (ordered_by relation args) f is in
-    let read = stepped (as_integers args) (λ (ts : List Term). Ok (all_of (chain relation ts))) f (passed (leb 2 (length args)) (ordered_by relation args) WrongCount f is) in
-    let integers = integers_sorted script scope next args read.value are read.first in
-    let count = integers.1 in
+    let read = stepped (as_integers args) (λ (ts : List Term). Ok (all_of (chain relation ts))) f (passed (leb 2 (length args)) (ordered_by relation args) WrongCount f is).1 in
+    let integers = integers_of script scope next args read.value are read.first in
+    let count = integers_count args read.value read.first in
     let same : all_of (chain relation read.value) ≡ f = let made = read.rest in cc in
-    subst (IsPlaced script scope next) same (terms_ordered script scope next relation order read.value (omega arith) integers.0)
+    subst (IsPlaced script scope next) same (terms_ordered script scope next relation order read.value (omega arith) integers)
 
 pub at_most_order : (script : Script) (scope : List Binder) → IsOrder script scope at_most
 at_most_order script scope = record { placed = λ s t at one two. IsPlaced.at_most scope at s t one two; closed = λ s t. formula_measure.variables-AtMost s t }

@@ -1,5 +1,5 @@
 -- The connectives over meanings that are placed one behind the other.
-use Rattle.std.proofs.Common.{◌≡◌, ◌≤◌, ◌<◌, ℕ, suc, ◌+◌, Bool, true, false, cond, leb, ltb, ◌==◌, ◌||◌, List, [], ◌∷◌, length, Result, Ok, Err, refl, ap, sym, subst, ◌∙◌, arith}
+use Rattle.std.proofs.Common.{◌≡◌, ◌≤◌, ℕ, suc, ◌+◌, Bool, true, false, cond, leb, ltb, ◌==◌, ◌||◌, List, [], ◌∷◌, length, Result, Ok, Err, refl, ap, sym, subst, ◌∙◌, arith}
 use Rattle.std.specs.List.{list_any}
 use Rattle.std.proofs.lemmas.Bool.Decides.{nat_tests}
 use Rattle.mbqi_values.specs.declared.fault.FaultKind.{FaultKind}
@@ -12,10 +12,10 @@ use Rattle.smtlib_terms.specs.declared.meaning.Meaning.{Meaning}
 use Rattle.smtlib_terms.specs.declared.meaning.Meaning.TheVariants as meaning
 use Rattle.smtlib_terms.specs.Meaning.{is_quantified, sort_of, variables_in}
 use Rattle.smtlib_terms.specs.Names.{◌>>=◌}
-use Rattle.smtlib_terms.specs.Operators.{as_formula, as_formulas, choice, choice_of, connective, exclusion, exclusion_of, implication, implication_of, implied_by, is_other_choice, joined, negated, negated_first, unlike, unquantified}
+use Rattle.smtlib_terms.specs.Operators.{as_formula, as_formulas, choice, choice_of, connective, exclusion, exclusion_of, implication, implication_of, implied_by, is_other_choice, joined, negated, negated_first, unlike}
 use Rattle.measured_terms.proofs.FormulaLaws as formula_measure
 use Rattle.read_in_form.proofs.Placed.{AreAllPlaced, AreMeanings, IsPlaced}
-use Rattle.read_in_form.proofs.Steps.{Stepped, passed, stepped}
+use Rattle.read_in_form.proofs.Steps.{neither, not_refused, passed, stepped}
 
 -- formulas among the meanings
 abbrev more_read : List Meaning → Formula → Result (List Formula) FaultKind
@@ -71,7 +71,7 @@ connective_placed : (script : Script) (scope : List Binder) (next : ℕ) (join :
 connective_placed script scope next join whole args f are is =
     let make : List Formula → Result Formula FaultKind = λ fs. Ok (joined join fs) in
     let some = enough 1 args (as_formulas args >>= make) f is in
-    let from = from_formulas script scope next args make f are (passed (leb 1 (length args)) (as_formulas args >>= make) WrongCount f is) in
+    let from = from_formulas script scope next args make f are (passed (leb 1 (length args)) (as_formulas args >>= make) WrongCount f is).1 in
     let count = from.count in
     let same : joined join from.read ≡ f = let made = from.made in cc in
     subst (IsPlaced script scope next) same (joined_placed script scope next join whole from.read (omega arith) from.placed)
@@ -91,7 +91,7 @@ first_negated script scope next (g ∷ gs) f (AreAllPlaced.more_formulas s n h h
 
 pub negated_placed : (script : Script) (scope : List Binder) (next : ℕ) (args : List Meaning) (f : Formula) → AreMeanings script scope next args → negated args ≡ Ok f → IsPlaced script scope next f
 negated_placed script scope next args f are is =
-    let from = from_formulas script scope next args negated_first f are (passed (length args == 1) (as_formulas args >>= negated_first) WrongCount f is) in
+    let from = from_formulas script scope next args negated_first f are (passed (length args == 1) (as_formulas args >>= negated_first) WrongCount f is).1 in
     first_negated script scope next from.read f from.placed from.made
 
 -- `=>`
@@ -112,7 +112,7 @@ first_implied script scope next (g ∷ gs) f placed is =
 
 pub implication_placed : (script : Script) (scope : List Binder) (next : ℕ) (args : List Meaning) (f : Formula) → AreMeanings script scope next args → implication args ≡ Ok f → IsPlaced script scope next f
 implication_placed script scope next args f are is =
-    let from = from_formulas script scope next args implication_of f are (passed (leb 2 (length args)) (as_formulas args >>= implication_of) WrongCount f is) in
+    let from = from_formulas script scope next args implication_of f are (passed (leb 2 (length args)) (as_formulas args >>= implication_of) WrongCount f is).1 in
     first_implied script scope next from.read f from.placed from.made
 
 -- a formula that binds no variable
@@ -136,22 +136,13 @@ still_placed script scope next (f ∷ fs) still =
     let here : next ≡ next + variables_in f = let closed = still.0.closed in omega arith in
     AreAllPlaced.more_formulas scope next f fs still.0.placed (subst (λ (at : ℕ). AreAllPlaced script scope at fs) here (still_placed script scope next fs still.1))
 
-pub either_false : (a b : Bool) → (a || b) ≡ false → (a ≡ false) × (b ≡ false)
-either_false true b e = cc
-either_false false b e = (refl, e)
-
 pub placed_still : (script : Script) (scope : List Binder) (next : ℕ) (fs : List Formula) → AreAllPlaced script scope next fs → list_any is_quantified fs ≡ false → AreStill script scope next fs
 placed_still script scope next [] placed none = tt
 placed_still script scope next (f ∷ fs) (AreAllPlaced.more_formulas s n h hs one rest) none =
-    let parts = either_false (is_quantified f) (list_any is_quantified fs) none in
+    let parts = neither (is_quantified f) (list_any is_quantified fs) none in
     let closed = closed_by_test f parts.0 in
     let here : next + variables_in f ≡ next = omega arith in
     (record { placed = one; closed = closed }, placed_still script scope next fs (subst (λ (at : ℕ). AreAllPlaced script scope at fs) here rest) parts.1)
-
--- nothing is quantified
-pub none_quantified : {A : Type 0} (test : Bool) (r : Result A FaultKind) (a : A) → cond test (Err QuantifierPlace) r ≡ Ok a → (test ≡ false) × (r ≡ Ok a)
-none_quantified true r a is = cc
-none_quantified false r a is = (refl, is)
 
 -- `xor`
 unlike_placed : (script : Script) (scope : List Binder) (next : ℕ) (f : Formula) (gs : List Formula) → IsStill script scope next f → AreStill script scope next gs → IsPlaced script scope next (unlike f gs)
@@ -165,14 +156,14 @@ unlike_placed script scope next f (g ∷ gs) one still =
 first_unlike : (script : Script) (scope : List Binder) (next : ℕ) (fs : List Formula) (f : Formula) → AreAllPlaced script scope next fs → exclusion_of fs ≡ Ok f → IsPlaced script scope next f
 first_unlike script scope next [] f placed is = cc
 first_unlike script scope next (g ∷ gs) f placed is =
-    let none = none_quantified (list_any is_quantified (g ∷ gs)) (Ok (unlike g gs)) f is in
+    let none = not_refused (list_any is_quantified (g ∷ gs)) (Ok (unlike g gs)) QuantifierPlace f is in
     let still = placed_still script scope next (g ∷ gs) placed none.0 in
     let same : unlike g gs ≡ f = let made = none.1 in cc in
     subst (IsPlaced script scope next) same (unlike_placed script scope next g gs still.0 still.1)
 
 pub exclusion_placed : (script : Script) (scope : List Binder) (next : ℕ) (args : List Meaning) (f : Formula) → AreMeanings script scope next args → exclusion args ≡ Ok f → IsPlaced script scope next f
 exclusion_placed script scope next args f are is =
-    let from = from_formulas script scope next args exclusion_of f are (passed (leb 2 (length args)) (as_formulas args >>= exclusion_of) WrongCount f is) in
+    let from = from_formulas script scope next args exclusion_of f are (passed (leb 2 (length args)) (as_formulas args >>= exclusion_of) WrongCount f is).1 in
     first_unlike script scope next from.read f from.placed from.made
 
 -- `ite`
@@ -181,8 +172,8 @@ three_chosen script scope next [] f placed is = cc
 three_chosen script scope next (c ∷ []) f placed is = cc
 three_chosen script scope next (c ∷ g ∷ []) f placed is = cc
 three_chosen script scope next (c ∷ g ∷ h ∷ []) f (AreAllPlaced.more_formulas s n d ds one (AreAllPlaced.more_formulas s' n' d' ds' two (AreAllPlaced.more_formulas s'' n'' d'' ds'' three none))) is =
-    let test = none_quantified (is_quantified c || false) (Ok (formula.Choose c g h)) f is in
-    let closed = closed_by_test c (either_false (is_quantified c) false test.0).0 in
+    let test = not_refused (is_quantified c || false) (Ok (formula.Choose c g h)) QuantifierPlace f is in
+    let closed = closed_by_test c (neither (is_quantified c) false test.0).0 in
     let same : formula.Choose c g h ≡ f = let made = test.1 in cc in
     let here : next + variables_in c ≡ next = omega arith in
     let third : next + variables_in c + variables_in g ≡ next + variables_in g = omega arith in
@@ -190,16 +181,12 @@ three_chosen script scope next (c ∷ g ∷ h ∷ []) f (AreAllPlaced.more_formu
     (IsPlaced.choice scope next c g h closed one (subst (λ (at : ℕ). IsPlaced script scope at g) here two) (subst (λ (at : ℕ). IsPlaced script scope at h) third three))
 three_chosen script scope next (c ∷ g ∷ h ∷ k ∷ fs) f placed is = cc
 
-not_other : (test : Bool) (r : Result Formula FaultKind) (f : Formula) → cond test (Err Unsupported) r ≡ Ok f → r ≡ Ok f
-not_other true r f is = cc
-not_other false r f is = is
-
 pub choice_placed : (script : Script) (scope : List Binder) (next : ℕ) (args : List Meaning) (f : Formula) → AreMeanings script scope next args → choice args ≡ Ok f → IsPlaced script scope next f
 choice_placed script scope next [] f are is = cc
 choice_placed script scope next (c ∷ []) f are is = cc
 choice_placed script scope next (c ∷ m ∷ []) f are is = cc
 choice_placed script scope next (c ∷ m ∷ n ∷ []) f are is =
-    let read = not_other (is_other_choice (sort_of m) (sort_of n)) (as_formulas (c ∷ m ∷ n ∷ []) >>= choice_of) f is in
-    let from = from_formulas script scope next (c ∷ m ∷ n ∷ []) choice_of f are read in
+    let read = not_refused (is_other_choice (sort_of m) (sort_of n)) (as_formulas (c ∷ m ∷ n ∷ []) >>= choice_of) Unsupported f is in
+    let from = from_formulas script scope next (c ∷ m ∷ n ∷ []) choice_of f are read.1 in
     three_chosen script scope next from.read f from.placed from.made
 choice_placed script scope next (c ∷ m ∷ n ∷ k ∷ args) f are is = cc

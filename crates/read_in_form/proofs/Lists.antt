@@ -21,18 +21,18 @@ use Rattle.smtlib_terms.specs.declared.word.Word.TheVariants as word
 use Rattle.smtlib_terms.specs.Applying.{mapped, name_applied}
 use Rattle.smtlib_terms.specs.Meaning.{depth_of, shallow}
 use Rattle.smtlib_terms.specs.Names.{◌>>=◌, Signature, sort_meant}
-use Rattle.smtlib_terms.specs.Operators.{applied, as_formula, constant, is_relation, meant, subtraction}
+use Rattle.smtlib_terms.specs.Operators.{applied, as_formula, constant, meant, subtraction}
 use Rattle.smtlib_terms.specs.Reading.{Head, Named, Constant, Mapped, NoHead, Part, Reading, are_binders, bindable, binder_name, binding_of, bindings_read, body_read, call_read, first_read, head_of, headed_read, is_forall, let_read, list_read, named_read, parts_read, quantified, quantified_meant, quantifier_binders, quantifier_read, relation_read, shallow_side, trees_in, value_read, values_read}
 use Rattle.read_in_form.proofs.Arrays.{constant_placed}
 use Rattle.read_in_form.proofs.Binders.{binders_are_read, binders_in, body_below, body_extends, variables_bound}
 use Rattle.read_in_form.proofs.Maps.{mapped_placed}
 use Rattle.read_in_form.proofs.MovedFormulas.{bound_read}
 use Rattle.read_in_form.proofs.NamesApplied.{name_placed}
-use Rattle.read_in_form.proofs.Parts.{AreGood, AreGoodLists, AreGoodParts, IsGood, IsGoodPart, IsPlace, body_is_read, first_is_read, parts_are_read, relation_is_read, value_is_read, values_are_read, word_over_parts}
+use Rattle.read_in_form.proofs.Parts.{AreGoodLists, AreGoodParts, IsGood, IsPlace, body_is_read, first_is_read, parts_are_read, relation_is_read, value_is_read, values_are_read, word_over_parts}
 use Rattle.read_in_form.proofs.Placed.{AreBinders, IsMeaning, IsPlaced, IsRead, IsReadSide, IsScope, IsSideMeaning}
-use Rattle.read_in_form.proofs.Scopes.{extends_itself, no_bindings, scope_later, scope_more}
+use Rattle.read_in_form.proofs.Scopes.{extends_itself, scope_later, scope_more}
 use Rattle.read_in_form.proofs.SortsRead.{sort_read_is}
-use Rattle.read_in_form.proofs.Steps.{MeantBy, Stepped, meant_by, passed, stepped}
+use Rattle.read_in_form.proofs.Steps.{meant_by, passed, same_ok, stepped}
 use Rattle.read_in_form.proofs.Sums.{subtraction_placed}
 
 -- what reads where
@@ -55,7 +55,7 @@ bindings_are_read script (t ∷ ts) (r ∷ rs) names scope bindings next seen bs
     let more = stepped (bindings_read ts rs names bindings next (seen ++ name.value ∷ [])) (λ (more : List Binding). Ok (record { name = name.value; bound = Bound.Value next value.value } ∷ more)) bs name.rest in
     let first : Binding = record { name = name.value; bound = Bound.Value next value.value } in
     let all : first ∷ more.value ≡ bs = cc in
-    subst (λ (cs : List Binding). IsScope script scope next (cs ++ bindings)) all
+    subst (λ (cs : List Binding). IsScope script scope next (cs ++ bindings)) {x = first ∷ more.value} all
     (scope_more script scope next first (more.value ++ bindings)
     (record { outside = scope; before = omega arith; below = at.below; extends = extends_itself scope; read = value_is_read script r names scope bindings next value.value good.0 at value.first })
     (bindings_are_read script ts rs names scope bindings next (seen ++ name.value ∷ []) more.value good.1 at more.first))
@@ -192,7 +192,7 @@ within_depth false depth is m n e = cc
 shallow_is_read : (script : Script) (scope : List Binder) (next : ℕ) (s r : Side) → IsSideMeaning script scope next s → shallow_side s ≡ Ok r → IsReadSide script scope next r
 shallow_is_read script scope next (Meant m) r is e =
     let by = meant_by (shallow m) r e in
-    let same : m ≡ by.value = let whole = passed (nat_le (depth_of m) 1000) (Ok m) TooDeep by.value by.first in cc in
+    let same : m ≡ by.value = same_ok m by.value (passed (nat_le (depth_of m) 1000) (Ok m) TooDeep by.value by.first).1 in
     let deep : depth_of m ≤ 1000 = within_depth (nat_le (depth_of m) 1000) (depth_of m) refl m by.value by.first in
     subst (IsReadSide script scope next) (sym by.side) (subst (IsRead script scope next) same (record { meaning = is; depth = deep }))
 shallow_is_read script scope next (Difference s t) r is e =

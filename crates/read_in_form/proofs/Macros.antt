@@ -1,29 +1,25 @@
 -- What a script's names stand for, macros among them: a formula that is read is in form.
-use Rattle.std.proofs.Common.{◌≡◌, ◌≤◌, ◌<◌, ℕ, Bool, true, false, cond, List, [], ◌∷◌, length, Option, Some, Result, Ok, subst, arith}
+use Rattle.std.proofs.Common.{◌≡◌, ◌≤◌, ℕ, Bool, true, false, cond, List, [], ◌∷◌, length, Option, Some, Ok, subst, arith}
 use Rattle.std.specs.List.{fold}
-use Rattle.mbqi_values.specs.declared.fault.FaultKind.{FaultKind}
 use Rattle.mbqi_terms.specs.declared.formula.Formula.{Formula}
-use Rattle.mbqi_terms.specs.declared.formula.Formula.TheVariants as formula
 use Rattle.mbqi_terms.specs.declared.script.Function.{Function}
 use Rattle.mbqi_terms.specs.declared.script.Script.{Script}
 use Rattle.mbqi_terms.specs.declared.sort.Binder.{Binder}
 use Rattle.sexpr_text.specs.declared.tree.Sexpr.{Sexpr}
 use Rattle.smtlib_terms.specs.declared.meaning.Meaning.{Meaning}
 use Rattle.smtlib_terms.specs.declared.meaning.Meaning.TheVariants as meaning
-use Rattle.smtlib_terms.specs.declared.names.Binding.{Binding}
 use Rattle.smtlib_terms.specs.declared.names.Macro.{Macro}
 use Rattle.smtlib_terms.specs.declared.names.Parameter.{Parameter}
-use Rattle.smtlib_terms.specs.Declaring.{Declarations, arguments, formula_read, names_of, reader_of, signature_of, with_macro}
+use Rattle.smtlib_terms.specs.Declaring.{Declarations, arguments, formula_read, names_of, reader_of, with_macro}
 use Rattle.smtlib_terms.specs.Meaning.{depth_of_formula}
 use Rattle.smtlib_terms.specs.Names.{Reader, Signature, function_named, macro_named}
 use Rattle.smtlib_terms.specs.Operators.{as_formula}
 use Rattle.smtlib_terms.specs.Reading.{meant_by, side}
 use Rattle.smtlib_terms.specs.Words.{is_text}
-use Rattle.printed_trees.specs.InForm.{sort_at}
-use Rattle.read_in_form.proofs.Parts.{IsPlace, one_is_read}
+use Rattle.read_in_form.proofs.Parts.{one_is_read}
 use Rattle.read_in_form.proofs.Placed.{AreValues, IsBelow, IsFunction, IsPlaced, IsRead, IsReader, IsScope, IsSignature}
 use Rattle.read_in_form.proofs.Scopes.{extends_itself, no_bindings, scope_more}
-use Rattle.read_in_form.proofs.Steps.{Stepped, stepped}
+use Rattle.read_in_form.proofs.Steps.{stepped}
 use Rattle.read_in_form.proofs.Trees.{tree_is_good}
 
 -- the arguments of a macro, as values

@@ -24,9 +24,9 @@ use Rattle.smtlib_terms.specs.Operators.{unbound}
 use Rattle.smtlib_terms.specs.Words.{is_reserved_word, is_text}
 use Rattle.printed_trees.specs.InForm.{AreArrays, IsArray, IsPlainSort, IsPointwise}
 use Rattle.printed_trees.specs.Scripts.{IsResultSort}
-use Rattle.read_in_form.proofs.NamesApplied.{both, same_as_plain, same_plain}
+use Rattle.read_in_form.proofs.SameSorts.{same_plain, same_sort}
 use Rattle.read_in_form.proofs.Placed.{AreMeanings, IsArrayOf, IsFunction, IsMeaning, IsSignature}
-use Rattle.read_in_form.proofs.SortsRead.{passed, step}
+use Rattle.read_in_form.proofs.Steps.{both_true, passed, stepped}
 
 -- what a map's function takes and gives, if its places are at least one and of plain sorts
 record IsGiven (script : Script) (p : Pointwise) (es : List Plain) : Type 0 where
@@ -128,9 +128,9 @@ over_is : (script : Script) (scope : List Binder) (next : ℕ) (i : Plain) (s : 
 over_is script scope next i s (meaning.Formula f) is e = cc
 over_is script scope next i s (meaning.Term r t) is e = cc
 over_is script scope next i s (meaning.Array j d a) is e =
-    let tests = both (is_plain i j) (is_sort s (plain_sort d)) e in
+    let tests = both_true (is_plain i j) (is_sort s (plain_sort d)) e in
     let same : j ≡ i = sym (same_plain i j tests.0) in
-    record { element = d; term = a; sort = same_as_plain s d tests.1; meaning = ap (λ (k : Plain). meaning.Array k d a) same; array = subst (λ (k : Plain). IsArray script scope a k d) same is.array }
+    record { element = d; term = a; sort = same_sort s (plain_sort d) tests.1; meaning = ap (λ (k : Plain). meaning.Array k d a) same; array = subst (λ (k : Plain). IsArray script scope a k d) same is.array }
 
 record AreOver (script : Script) (scope : List Binder) (i : Plain) (places : List Sort) (args : List Meaning) : Type 0 where
   elements : List Plain
@@ -148,7 +148,7 @@ over_are script scope next i [] [] are e = record { elements = []; same = refl; 
 over_are script scope next i [] (m ∷ ms) are e = cc
 over_are script scope next i (s ∷ ss) [] are e = cc
 over_are script scope next i (s ∷ ss) (m ∷ ms) are e =
-    let tests = both (is_over i s m) (are_over i ss ms) e in
+    let tests = both_true (is_over i s m) (are_over i ss ms) e in
     more_over script scope i s ss m ms (over_is script scope next i s m are.0 tests.0) (over_are script scope (next + variables_of m) i ss ms are.1 tests.1)
 
 -- the map of arrays
@@ -179,6 +179,6 @@ mapped_over_is script scope next p (meaning.Array i e a ∷ ms) m gives are is =
 pub mapped_placed : (script : Script) (names : Signature) (scope : List Binder) (next : ℕ) (bindings : List Binding) (name : List ℕ) (args : List Meaning) (m : Meaning) → IsSignature script names → AreMeanings script scope next args →
     mapped names bindings name args ≡ Ok m → IsMeaning script scope next m
 mapped_placed script names scope next bindings name args m is are e =
-    let named = step (pointwise_named names bindings name args) (λ (p : Pointwise). cond (eqb (length args) (length p.places)) (mapped_over p args) (Err WrongCount)) m e in
-    let counted = passed (eqb (length args) (length named.0.places)) (mapped_over named.0 args) WrongCount m named.2 in
-    mapped_over_is script scope next named.0 args m (named_gives script names bindings name args named.0 is named.1) are counted.1
+    let named = stepped (pointwise_named names bindings name args) (λ (p : Pointwise). cond (eqb (length args) (length p.places)) (mapped_over p args) (Err WrongCount)) m e in
+    let counted = passed (eqb (length args) (length named.value.places)) (mapped_over named.value args) WrongCount m named.rest in
+    mapped_over_is script scope next named.value args m (named_gives script names bindings name args named.value is named.first) are counted.1

@@ -1,6 +1,5 @@
 -- A name with its arguments is read as something in form.
-use Rattle.std.proofs.Common.{◌≡◌, ◌≤◌, ◌+◌, ℕ, Bool, true, false, cond, ◌&&◌, eqb, max, List, [], ◌∷◌, length, map, Option, Some, None, Result, Ok, Err, refl, sym, ap, ◌∙◌, subst, arith}
-use Rattle.std.proofs.lemmas.Bool.Decides.{nat_tests}
+use Rattle.std.proofs.Common.{◌≡◌, ◌≤◌, ◌+◌, ℕ, true, false, cond, eqb, max, List, [], ◌∷◌, length, map, Option, Some, None, Result, Ok, Err, refl, sym, ap, ◌∙◌, subst, arith}
 use Rattle.std.proofs.lemmas.List.Elements.{recursion_from_All}
 use Rattle.std.specs.List.{AllByRecursion}
 use Rattle.mbqi_values.specs.declared.fault.FaultKind.{FaultKind}
@@ -21,7 +20,7 @@ use Rattle.smtlib_terms.specs.declared.meaning.Meaning.TheVariants as meaning
 use Rattle.smtlib_terms.specs.declared.names.Binding.{Binding}
 use Rattle.smtlib_terms.specs.Applying.{alone, application, bound_applied, declared_applied, fitting, function_applied, have_sorts, meaning_in_scope, name_applied, terms_of}
 use Rattle.smtlib_terms.specs.Meaning.{depth_of, depth_of_term, sort_of}
-use Rattle.smtlib_terms.specs.Names.{Reader, Signature, bound_to, function_named, is_array, is_plain, is_sort, macro_named, plain_sort}
+use Rattle.smtlib_terms.specs.Names.{Reader, Signature, bound_to, function_named, is_array, is_sort, macro_named, plain_sort}
 use Rattle.measured_terms.proofs.ArrayLaws.{depth-Name, varies-Name}
 use Rattle.measured_terms.proofs.FormulaLaws.{depth-Atom}
 use Rattle.measured_terms.proofs.SymbolLaws.{depth-Declared}
@@ -29,41 +28,8 @@ use Rattle.measured_terms.proofs.TermLaws.{depth-Apply}
 use Rattle.printed_trees.specs.InForm.{HasSort, HaveSorts, IsArray, IsDeclared, IsIndexSort, IsVariableSort}
 use Rattle.printed_trees.specs.Scripts.{IsResultSort}
 use Rattle.read_in_form.proofs.Placed.{AreValues, IsBelow, IsBound, IsFunction, IsMeaning, IsPlaced, IsRead, IsReader, IsScope, IsSignature}
-use Rattle.read_in_form.proofs.SortsRead.{passed}
-
--- sorts that the tests find equal
-eqb_same : (a b : ℕ) → eqb a b ≡ true → a ≡ b
-eqb_same a b e = grind (arith, nat_tests)
-
-pub both : (a b : Bool) → (a && b) ≡ true → (a ≡ true) × (b ≡ true)
-both true b e = (refl, e)
-both false b e = cc
-
-pub same_plain : (p q : Plain) → is_plain p q ≡ true → p ≡ q
-same_plain plain.Truth plain.Truth e = refl
-same_plain plain.Int plain.Int e = refl
-same_plain (plain.Elem s) (plain.Elem t) e = ap plain.Elem (eqb_same s t e)
-same_plain plain.Truth plain.Int e = cc
-same_plain plain.Truth (plain.Elem t) e = cc
-same_plain plain.Int plain.Truth e = cc
-same_plain plain.Int (plain.Elem t) e = cc
-same_plain (plain.Elem s) plain.Truth e = cc
-same_plain (plain.Elem s) plain.Int e = cc
-
--- of a plain sort and one that a variable may have
-pub same_as_plain : (s : Sort) (p : Plain) → is_sort s (plain_sort p) ≡ true → s ≡ plain_sort p
-same_as_plain sort.Truth plain.Truth e = refl
-same_as_plain sort.Int plain.Int e = refl
-same_as_plain (sort.Elem s) (plain.Elem t) e = ap sort.Elem (eqb_same s t e)
-same_as_plain sort.Truth plain.Int e = cc
-same_as_plain sort.Truth (plain.Elem t) e = cc
-same_as_plain sort.Int plain.Truth e = cc
-same_as_plain sort.Int (plain.Elem t) e = cc
-same_as_plain (sort.Elem s) plain.Truth e = cc
-same_as_plain (sort.Elem s) plain.Int e = cc
-same_as_plain (sort.Array i f) plain.Truth e = cc
-same_as_plain (sort.Array i f) plain.Int e = cc
-same_as_plain (sort.Array i f) (plain.Elem t) e = cc
+use Rattle.read_in_form.proofs.SameSorts.{same_sort}
+use Rattle.read_in_form.proofs.Steps.{both_true, passed}
 
 no_truth : (script : Script) (s : Sort) → IsVariableSort script s → is_sort s sort.Truth ≡ false
 no_truth script sort.Truth is = absurd is
@@ -90,7 +56,7 @@ argument_is : (script : Script) (scope : List Binder) (next : ℕ) (s : Sort) (m
 argument_is script scope next s (meaning.Formula f) var is e = let not : is_sort s sort.Truth ≡ false = no_truth script s var in cc
 argument_is script scope next s (meaning.Array j g a) var is e = let not : is_sort s (sort.Array j g) ≡ false = no_array script s j g var in cc
 argument_is script scope next s (meaning.Term r t) var is e =
-    let same : s ≡ plain_sort is.is = same_as_plain s is.is (subst (λ (q : Sort). is_sort s q ≡ true) is.sort e) in
+    let same : s ≡ plain_sort is.is = same_sort s (plain_sort is.is) (subst (λ (q : Sort). is_sort s q ≡ true) is.sort e) in
     record { is = is.is; term = t; sort = same; meaning = ap (λ (q : Sort). meaning.Term q t) (is.sort ∙ sym same); index = is.index; has = is.term }
 
 -- arguments are terms of the sorts of their places
@@ -110,7 +76,7 @@ arguments_are script scope next [] [] all values e = record { plains = []; same 
 arguments_are script scope next [] (m ∷ ms) all values e = cc
 arguments_are script scope next (s ∷ ss) [] all values e = cc
 arguments_are script scope next (s ∷ ss) (m ∷ ms) all values e =
-    let tests = both (is_sort s (sort_of m)) (have_sorts ss ms) e in
+    let tests = both_true (is_sort s (sort_of m)) (have_sorts ss ms) e in
     more_arguments script scope s ss m ms (argument_is script scope next s m all.0 values.0.meaning tests.0) (arguments_are script scope next ss ms all.1 values.1 tests.1)
 
 -- the application of a function, by the sort of its result

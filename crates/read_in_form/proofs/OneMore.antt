@@ -1,5 +1,5 @@
 -- Lists with one more item.
-use Rattle.std.proofs.Common.{◌≡◌, ◌≢◌, ℕ, zero, suc, Bool, true, false, ◌||◌, List, [], ◌∷◌, ◌++◌, length, All, Some, Option, slice_get, refl, sym, ap, ◌∙◌, subst, ◌⊎◌, inl, inr}
+use Rattle.std.proofs.Common.{◌≡◌, ◌≢◌, ℕ, zero, suc, Bool, true, false, List, [], ◌∷◌, ◌++◌, length, All, Some, Option, slice_get, refl, sym, ap, ◌∙◌, subst, ◌⊎◌, inl, inr}
 use Rattle.std.specs.List.{AllByRecursion, list_any}
 use Rattle.std.proofs.lemmas.List.Elements.{All-from_recursion, recursion_from_All}
 use Rattle.std.proofs.lemmas.Option.{get_or_from_slice_get, slice_get_within}
@@ -9,6 +9,7 @@ use Rattle.mbqi_terms.specs.declared.script.Assertion.{Assertion}
 use Rattle.smtlib_terms.specs.Words.{is_one_of, is_text}
 use Rattle.smtlib_decls.specs.Labels.{is_labelled, is_taken}
 use Rattle.printed_trees.specs.Scripts.{DifferInLabels}
+use Rattle.read_in_form.proofs.Steps.{neither}
 
 -- What all items have.
 each_more : {X : Type 0} (P : X → Type 0) (xs : List X) (x : X) → AllByRecursion P xs → P x → AllByRecursion P (xs ++ x ∷ [])
@@ -56,10 +57,6 @@ distinct_more xs x distinct new i j y e f =
     (λ k a e same. new k (e ∙ ap Some same)) (λ k a e same. new k (e ∙ ap Some (sym same))) i j y y e f refl
 
 -- What no item passes.
-pub neither : (a b : Bool) → (a || b) ≡ false → (a ≡ false) × (b ≡ false)
-neither true b e = cc
-neither false b e = (refl, e)
-
 none_passes : {X : Type 0} (p : X → Bool) (xs : List X) (i : ℕ) (x : X) → list_any p xs ≡ false → slice_get xs i ≡ Some x → p x ≡ false
 none_passes p [] i x none e = cc
 none_passes p (y ∷ ys) zero x none e = let same : y ≡ x = cc in subst (λ z. p z ≡ false) same (neither (p y) (list_any p ys) none).0

@@ -1,5 +1,5 @@
 -- Parts of a list that each read as something in form: what several of them read as.
-use Rattle.std.proofs.Common.{◌≡◌, ◌≤◌, ℕ, ◌+◌, Bool, List, [], ◌∷◌, length, ◌==◌, Result, Ok, Err, if◌then◌else◌, subst, arith}
+use Rattle.std.proofs.Common.{◌≡◌, ℕ, ◌+◌, List, [], ◌∷◌, length, ◌==◌, Result, Ok, Err, if◌then◌else◌, subst, arith}
 use Rattle.mbqi_values.specs.declared.fault.FaultKind.{FaultKind}
 use Rattle.mbqi_values.specs.declared.fault.FaultKind.TheVariants.{WrongCount}
 use Rattle.mbqi_terms.specs.declared.script.Script.{Script}
@@ -16,7 +16,7 @@ use Rattle.smtlib_terms.specs.Reading.{Part, Reading, body_read, first_read, par
 use Rattle.read_in_form.proofs.Placed.{AreMeanings, AreValues, IsBelow, IsMeaning, IsRead, IsReadSide, IsScope, IsSideMeaning, IsSignature}
 use Rattle.read_in_form.proofs.Scopes.{below_later, extends_itself, scope_later}
 use Rattle.read_in_form.proofs.Sides.{two_sides_placed}
-use Rattle.read_in_form.proofs.Steps.{Stepped, passed, plain_side, stepped}
+use Rattle.read_in_form.proofs.Steps.{passed, plain_side, same_ok, stepped}
 use Rattle.read_in_form.proofs.Words.{applied_placed}
 
 -- where something is read
@@ -118,8 +118,7 @@ first_is_read script (p ∷ ps) names scope bindings next m good at is = one_is_
 pub body_is_read : (script : Script) (ps : List Part) (names : Signature) (scope : List Binder) (bindings : List Binding) (next : ℕ) (m : Meaning) → AreGoodParts script ps → IsPlace script names scope bindings next → body_read ps names bindings next ≡ Ok m → IsRead script scope next m
 body_is_read script ps names scope bindings next m good at is =
     let one = stepped (first_read ps names bindings next) (λ (m : Meaning). if length ps == 1 then Ok m else Err WrongCount) m is in
-    let same = passed (length ps == 1) (Ok one.value) WrongCount m one.rest in
-    let whole : one.value ≡ m = cc in
+    let whole = same_ok one.value m (passed (length ps == 1) (Ok one.value) WrongCount m one.rest).1 in
     first_is_read script ps names scope bindings next m good at (subst (λ (n : Meaning). first_read ps names bindings next ≡ Ok n) whole one.first)
 
 -- the value of a binding

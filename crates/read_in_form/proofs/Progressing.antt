@@ -13,7 +13,6 @@ use Rattle.mbqi_terms.specs.declared.script.Function.{Function}
 use Rattle.mbqi_terms.specs.declared.script.Script.{Script}
 use Rattle.mbqi_terms.specs.declared.sort.Sort.{Sort}
 use Rattle.mbqi_terms.specs.declared.sort.Sort.TheVariants as sort
-use Rattle.sexpr_text.proofs.Legality.{both}
 use Rattle.sexpr_text.specs.declared.tree.Form.{Form}
 use Rattle.sexpr_text.specs.declared.tree.Sexpr.{Sexpr}
 use Rattle.smtlib_terms.specs.Declaring.{Declarations, formula_read, is_first_order, is_function}
@@ -29,7 +28,8 @@ use Rattle.printed_trees.specs.Names.{AreNamed, IsName}
 use Rattle.printed_trees.specs.Scripts.{DifferInLabels, IsInForm, IsRanked, IsResultSort}
 use Rattle.read_in_form.proofs.CommandSteps.{IsLegalText, IsNamedSort, IsNewFunction, IsStep, command_steps, with_question}
 use Rattle.read_in_form.proofs.LegalNames.{IsLegalForm}
-use Rattle.read_in_form.proofs.OneMore.{all_get, all_more, get_before, labels_differ, names_differ, neither}
+use Rattle.read_in_form.proofs.OneMore.{all_get, all_more, get_before, labels_differ, names_differ}
+use Rattle.read_in_form.proofs.Steps.{both_true, neither}
 use Rattle.read_in_form.proofs.Placed.{IsFunction, IsPlaced}
 use Rattle.read_in_form.proofs.SortsRead.{sort_read_is}
 
@@ -53,7 +53,7 @@ own_before : (d : Declarations) → IsBefore d d
 own_before d = record { sorts = omega arith; functions = λ i f e. e }
 
 step_grows : (p next : Progress) → IsStep p next → IsBefore p.names next.names
-step_grows p next (IsStep.passed) = own_before p.names
+step_grows p next (IsStep.passed_over) = own_before p.names
 step_grows p next (IsStep.sort name new) = record { sorts = omega (arith, length-append p.names.sorts (name ∷ [])); functions = λ i f e. e }
 step_grows p next (IsStep.function f new) = record { sorts = omega arith; functions = λ i g e. get_before p.names.functions f i g e }
 step_grows p next (IsStep.definition m) = record { sorts = omega arith; functions = λ i f e. e }
@@ -112,7 +112,7 @@ named_sort_is script d s le is = sort_read_is script d.sorts is.tree s le is.rea
 variable_sorts : (script : Script) (d : Declarations) (ss : List Sort) → length d.sorts ≤ length script.sorts → AllByRecursion (IsNamedSort d) ss → list_all is_first_order ss ≡ true → AllByRecursion (IsVariableSort script) ss
 variable_sorts script d [] le are first = tt
 variable_sorts script d (s ∷ ss) le are first =
-    let parts = both (is_first_order s) (list_all is_first_order ss) first in
+    let parts = both_true (is_first_order s) (list_all is_first_order ss) first in
     (variable_sort script s (named_sort_is script d s le are.0) parts.0, variable_sorts script d ss le are.1 parts.1)
 
 no_arguments : (args : List Sort) → eqb (length args) 0 ≡ true → args ≡ []
@@ -126,7 +126,7 @@ or_not false false e there = cc
 
 function_ranked : (script : Script) (d : Declarations) (f : Function) → length d.sorts ≤ length script.sorts → IsNewFunction d f → IsRanked script f
 function_ranked script d f le new =
-    let parts = both (list_all is_first_order f.args) ((eqb (length f.args) 0) || not (is_array f.result)) new.supported in
+    let parts = both_true (list_all is_first_order f.args) ((eqb (length f.args) 0) || not (is_array f.result)) new.supported in
     record {
       args = All-from_recursion (IsVariableSort script) f.args (variable_sorts script d f.args le new.args parts.0);
       result = named_sort_is script d f.result le new.result;
@@ -152,7 +152,7 @@ still_named a b sorts functions named = record {
 
 -- Each step keeps what holds.
 step_keeps : (script : Script) (p next : Progress) → IsStep p next → IsBefore next.names (declared_in script) → IsKept script (script_of p) → IsKept script (script_of next)
-step_keeps script p next (IsStep.passed) before kept = kept
+step_keeps script p next (IsStep.passed_over) before kept = kept
 step_keeps script p next (IsStep.sort name new) before kept = record {
   named = record {
     sorts = all_more IsName p.names.sorts name kept.named.sorts (record { legal = new.legal; free = new.free });
@@ -213,7 +213,7 @@ nothing_kept script = record {
 
 pub script_in_form : (forms : List Form) (script : Script) → AllByRecursion IsLegalForm forms → script_meant forms ≡ Ok script →
     ((d : Declarations) (t : Sexpr) (f : Formula) → IsPart script d → formula_read d t ≡ Ok f → IsPlaced script [] 0 f × (depth_of_formula f ≤ 1000)) →
-    (p : All (λ (a : Assertion). variables_in a.formula ≤ 2 ^ 64) script.assertions) →
+    All (λ (a : Assertion). IsPlaced script [] 0 a.formula → variables_in a.formula ≤ 2 ^ 64) script.assertions →
     ((f : Formula) → IsPlaced script [] 0 f → variables_in f ≤ 2 ^ 64 → IsFormula script [] 0 f) → IsInForm script
 script_in_form forms script legal e reads few is =
     let kept = forms_keep script forms nothing legal e (nothing_kept script) in
@@ -223,6 +223,6 @@ script_in_form forms script legal e reads few is =
       asserted = λ i d within.
           let given = kept.given i d within in
           let read = reads given.declarations given.tree _ given.part given.read in
-          record { formula = is _ read.0 (few i d within); depth = read.1; label = given.label };
+          record { formula = is _ read.0 (few i d within read.0); depth = read.1; label = given.label };
       labels = kept.labels;
     }

@@ -5,9 +5,9 @@ use Rattle.mbqi_terms.specs.declared.sort.Plain.{Plain}
 use Rattle.mbqi_terms.specs.declared.sort.Plain.TheVariants as plain
 use Rattle.mbqi_terms.specs.declared.sort.Sort.{Sort}
 use Rattle.mbqi_terms.specs.declared.sort.Sort.TheVariants as sort
-use Rattle.smtlib_terms.specs.Names.{is_plain, is_sort}
+use Rattle.smtlib_terms.specs.Names.{is_plain, is_sort, plain_sort}
 
-same_number : (a b : ℕ) → eqb a b ≡ true → a ≡ b
+pub same_number : (a b : ℕ) → eqb a b ≡ true → a ≡ b
 same_number a b e = grind (arith, nat_tests)
 
 pub same_plain : (p q : Plain) → is_plain p q ≡ true → p ≡ q
@@ -43,3 +43,15 @@ same_sort (sort.Array i e) sort.Truth is = cc
 same_sort (sort.Array i e) sort.Int is = cc
 same_sort (sort.Array i e) (sort.Elem t) is = cc
 same_sort (sort.Array i e) (sort.Array j f) is = same_arrays i e j f (is_plain i j) (is_plain e f) refl refl is
+
+-- plain sorts that are one as sorts
+pub one_plain : (p q : Plain) → plain_sort p ≡ plain_sort q → p ≡ q
+one_plain plain.Truth plain.Truth same = refl
+one_plain plain.Truth plain.Int same = cc
+one_plain plain.Truth (plain.Elem t) same = cc
+one_plain plain.Int plain.Truth same = cc
+one_plain plain.Int plain.Int same = refl
+one_plain plain.Int (plain.Elem t) same = cc
+one_plain (plain.Elem s) plain.Truth same = cc
+one_plain (plain.Elem s) plain.Int same = cc
+one_plain (plain.Elem s) (plain.Elem t) same = cc

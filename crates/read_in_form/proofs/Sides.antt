@@ -18,7 +18,8 @@ use Rattle.smtlib_terms.specs.Operators.{beside, moved_by, two, two_sides, two_t
 use Rattle.smtlib_terms.specs.Reading.{variables_of_side}
 use Rattle.printed_trees.specs.InForm.{HasSort}
 use Rattle.read_in_form.proofs.Placed.{AreMeanings, IsSideMeaning}
-use Rattle.read_in_form.proofs.Sums.{moved_has, ok_is, step_of, term_int}
+use Rattle.read_in_form.proofs.Steps.{same_ok, stepped}
+use Rattle.read_in_form.proofs.Sums.{moved_has, term_int}
 
 -- a difference beside a numeral
 beside_placed : (script : Script) (scope : List Binder) (next : ℕ) (m : Meaning) (s t : Term) (order : Meaning → Meaning → List Meaning) (args : List Meaning) → HasSort script scope t plain.Int →
@@ -31,16 +32,16 @@ beside_placed script scope next (meaning.Term sort.Truth u) s t order args h eac
 beside_placed script scope next (meaning.Term (sort.Elem k) u) s t order args h each is = cc
 beside_placed script scope next (meaning.Term (sort.Array i e) u) s t order args h each is = cc
 beside_placed script scope next (meaning.Term sort.Int (term.Num n)) s t order args h each is =
-    let moved = step_of (moved_by t n) (λ (m : Meaning). Ok (order (meaning.Term sort.Int s) m)) args is in
-    let u = step_of (summed (sum_of t).base ((sum_of t).number +ℤ n)) (λ (v : Term). Ok (meaning.Term sort.Int v)) moved.value moved.first in
-    let made = ok_is (Ok (meaning.Term sort.Int u.value)) (meaning.Term sort.Int u.value) moved.value refl u.rest in
-    let all = ok_is (Ok (order (meaning.Term sort.Int s) moved.value)) (order (meaning.Term sort.Int s) moved.value) args refl moved.rest in
+    let moved = stepped (moved_by t n) (λ (m : Meaning). Ok (order (meaning.Term sort.Int s) m)) args is in
+    let u = stepped (summed (sum_of t).base ((sum_of t).number +ℤ n)) (λ (v : Term). Ok (meaning.Term sort.Int v)) moved.value moved.first in
+    let made = same_ok (meaning.Term sort.Int u.value) moved.value u.rest in
+    let all = same_ok (order (meaning.Term sort.Int s) moved.value) args moved.rest in
     subst (AreMeanings script scope next) all (subst (λ (m : Meaning). AreMeanings script scope next (order (meaning.Term sort.Int s) m)) made (each u.value (moved_has script scope t _ u.value h u.first)))
 beside_placed script scope next (meaning.Term sort.Int u) s t order args h each is = cc
 
 pub two_sides_placed : (script : Script) (scope : List Binder) (next : ℕ) (left : Side) (right : Result Side FaultKind) (args : List Meaning) → IsSideMeaning script scope next left → ((s : Side) → right ≡ Ok s → IsSideMeaning script scope (next + variables_of_side left) s) → two_sides left right ≡ Ok args → AreMeanings script scope next args
 two_sides_placed script scope next (Meant m) (Ok (Meant n)) args h has is =
-    subst (AreMeanings script scope next) (ok_is (Ok (two m n)) (two m n) args refl is) (h, (has (Meant n) refl, tt))
+    subst (AreMeanings script scope next) (same_ok (two m n) args is) (h, (has (Meant n) refl, tt))
 two_sides_placed script scope next (Meant m) (Ok (Difference s t)) args h has is =
     let both = has (Difference s t) refl in
     beside_placed script scope next m s t two_turned args both.second (λ u hu. (term_int script scope u hu, (term_int script scope s both.first, tt))) is

@@ -1,8 +1,7 @@
 -- A sort that a tree names is one of the script.
-use Rattle.std.proofs.Common.{◌≡◌, ◌≤◌, ◌<◌, ℕ, Bool, true, false, cond, List, [], length, Option, Some, None, Result, Ok, Err, refl, subst, arith}
+use Rattle.std.proofs.Common.{◌≡◌, ◌≤◌, ◌<◌, ℕ, Bool, true, false, cond, List, [], length, Option, Some, None, Ok, refl, subst, arith}
 use Rattle.std.specs.Prelude.{codes}
 use Rattle.std.proofs.lemmas.List.Quantifiers.{position-Some}
-use Rattle.mbqi_values.specs.declared.fault.FaultKind.{FaultKind}
 use Rattle.mbqi_terms.specs.declared.script.Script.{Script}
 use Rattle.mbqi_terms.specs.declared.sort.Plain.{Plain}
 use Rattle.mbqi_terms.specs.declared.sort.Plain.TheVariants as plain
@@ -15,15 +14,7 @@ use Rattle.smtlib_terms.specs.Reading.{quantifiable}
 use Rattle.smtlib_terms.specs.Words.{is_text}
 use Rattle.printed_trees.specs.InForm.{IsIndexSort, IsVariableSort}
 use Rattle.printed_trees.specs.Scripts.{IsResultSort}
-
--- what a step gave, and what a test let through
-pub step : {A B : Type 0} (r : Result A FaultKind) (next : A → Result B FaultKind) (b : B) → (r >>= next) ≡ Ok b → (a : A) × (r ≡ Ok a) × (next a ≡ Ok b)
-step (Ok a) next b e = (a, refl, e)
-step (Err kind) next b e = cc
-
-pub passed : {A : Type 0} (t : Bool) (r : Result A FaultKind) (kind : FaultKind) (a : A) → cond t r (Err kind) ≡ Ok a → (t ≡ true) × (r ≡ Ok a)
-passed true r kind a e = (refl, e)
-passed false r kind a e = cc
+use Rattle.read_in_form.proofs.Steps.{passed, stepped}
 
 -- a name
 found_is : (script : Script) (place : Option ℕ) (s : Sort) → ((n : ℕ) → place ≡ Some n → n < length script.sorts) → found_sort place ≡ Ok s → IsResultSort script s
@@ -72,9 +63,9 @@ mutual
   row_read_is script sorts (more_of-Sexpr head (more_of-Sexpr i end_of-Sexpr)) s fewer is = cc
   row_read_is script sorts (more_of-Sexpr head (more_of-Sexpr i (more_of-Sexpr e end_of-Sexpr))) s fewer is =
       let read = passed (is_symbol (codes "Array") head) (sort_meant i sorts >>= (λ index. sort_meant e sorts >>= (λ element. array_sort index element))) _ s is in
-      let first = step (sort_meant i sorts) (λ index. sort_meant e sorts >>= (λ element. array_sort index element)) s read.1 in
-      let second = step (sort_meant e sorts) (λ element. array_sort first.0 element) s first.2 in
-      array_is script first.0 second.0 s (sort_read_is script sorts i first.0 fewer first.1) (sort_read_is script sorts e second.0 fewer second.1) second.2
+      let first = stepped (sort_meant i sorts) (λ index. sort_meant e sorts >>= (λ element. array_sort index element)) s read.1 in
+      let second = stepped (sort_meant e sorts) (λ element. array_sort first.value element) s first.rest in
+      array_is script first.value second.value s (sort_read_is script sorts i first.value fewer first.first) (sort_read_is script sorts e second.value fewer second.first) second.rest
   row_read_is script sorts (more_of-Sexpr head (more_of-Sexpr i (more_of-Sexpr e (more_of-Sexpr other row)))) s fewer is = cc
 
 -- the sort of a variable

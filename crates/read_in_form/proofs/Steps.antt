@@ -1,5 +1,5 @@
 -- What it says of the steps of a reading that it gave something.
-use Rattle.std.proofs.Common.{◌≡◌, Bool, true, false, cond, Result, Ok, Err, refl}
+use Rattle.std.proofs.Common.{◌≡◌, Bool, true, false, cond, ◌&&◌, ◌||◌, Result, Ok, Err, refl}
 use Rattle.mbqi_values.specs.declared.fault.FaultKind.{FaultKind}
 use Rattle.smtlib_terms.specs.declared.meaning.Meaning.{Meaning}
 use Rattle.smtlib_terms.specs.declared.meaning.Side.{Side}
@@ -17,10 +17,27 @@ pub stepped : {A B : Type 0} (r : Result A FaultKind) (next : A → Result B Fau
 stepped (Ok a) next b is = record { value = a; first = refl; rest = is }
 stepped (Err kind) next b is = cc
 
--- a test that must hold
-pub passed : {A : Type 0} (test : Bool) (r : Result A FaultKind) (kind : FaultKind) (a : A) → cond test r (Err kind) ≡ Ok a → r ≡ Ok a
-passed true r kind a is = is
+-- a test that must hold, and one that must not
+pub passed : {A : Type 0} (test : Bool) (r : Result A FaultKind) (kind : FaultKind) (a : A) → cond test r (Err kind) ≡ Ok a → (test ≡ true) × (r ≡ Ok a)
+passed true r kind a is = (refl, is)
 passed false r kind a is = cc
+
+pub not_refused : {A : Type 0} (test : Bool) (r : Result A FaultKind) (kind : FaultKind) (a : A) → cond test (Err kind) r ≡ Ok a → (test ≡ false) × (r ≡ Ok a)
+not_refused true r kind a is = cc
+not_refused false r kind a is = (refl, is)
+
+-- two tests
+pub both_true : (a b : Bool) → (a && b) ≡ true → (a ≡ true) × (b ≡ true)
+both_true true b e = (refl, e)
+both_true false b e = cc
+
+pub neither : (a b : Bool) → (a || b) ≡ false → (a ≡ false) × (b ≡ false)
+neither true b e = cc
+neither false b e = (refl, e)
+
+-- one answer
+pub same_ok : {A : Type 0} (a b : A) → ◌≡◌ {A = Result A FaultKind} (Ok a) (Ok b) → a ≡ b
+same_ok a b is = cc
 
 -- a meaning where no difference may stand
 pub plain_side : (r : Result Side FaultKind) (m : Meaning) → (r >>= plainly) ≡ Ok m → r ≡ Ok (Meant m)

@@ -1,5 +1,5 @@
 -- Sums and differences of integers in form are in form.
-use Rattle.std.proofs.Common.{◌≡◌, zero, suc, ◌+◌, ◌^◌, ℕ, ℤ, pos, negsuc, neg_ℤ, ◌-ℤ◌, Bool, true, false, cond, List, [], ◌∷◌, ◌++◌, map, Option, None, Some, Result, Ok, Err, refl, subst}
+use Rattle.std.proofs.Common.{◌≡◌, zero, suc, ◌+◌, ◌^◌, ℕ, ℤ, pos, negsuc, neg_ℤ, ◌-ℤ◌, Bool, true, false, cond, List, [], ◌∷◌, ◌++◌, map, Option, None, Some, Result, Ok, Err, refl, sym, subst}
 use Rattle.std.specs.Option.{option_to_list}
 use Rattle.mbqi_values.specs.declared.fault.FaultKind.{FaultKind}
 use Rattle.mbqi_values.specs.declared.fault.FaultKind.TheVariants.{OffsetTooWide, WrongCount}
@@ -18,47 +18,20 @@ use Rattle.smtlib_terms.specs.declared.meaning.Meaning.TheVariants as meaning
 use Rattle.smtlib_terms.specs.declared.meaning.Side.{Side}
 use Rattle.smtlib_terms.specs.declared.meaning.Side.TheVariants.{Meant, Difference}
 use Rattle.smtlib_terms.specs.Meaning.{variables_of}
-use Rattle.smtlib_terms.specs.Names.{◌>>=◌, plain_sort}
 use Rattle.smtlib_terms.specs.Number.{Sum, bases_of, difference, is_within, less, limit_of, negation, negation_of, plus_number, sum_of, sum_of_terms, summed, summed_beside, term_of, total_of}
 use Rattle.smtlib_terms.specs.Operators.{addition, as_integer, as_integers, integer_meant, is_numeral, meant, subtracted, subtraction}
 use Rattle.printed_trees.specs.InForm.{HasSort}
 use Rattle.read_in_form.proofs.Placed.{AreMeanings, IsMeaning, IsSideMeaning, IsTermOf}
-
--- a step of a reading without a fault
-pub record IsStep {A B : Type 0} (r : Result A FaultKind) (next : A → Result B FaultKind) (b : B) : Type 0 where
-  pub value : A
-  pub first : r ≡ Ok value
-  pub rest : next value ≡ Ok b
-
-pub step_of : {A B : Type 0} (r : Result A FaultKind) (next : A → Result B FaultKind) (b : B) → (r >>= next) ≡ Ok b → IsStep r next b
-step_of (Ok a) next b is = record { value = a; first = refl; rest = is }
-step_of (Err kind) next b is = cc
-
--- a test that was passed
-pub passed : {A : Type 0} (test : Bool) (x : Result A FaultKind) (kind : FaultKind) (a : A) → cond test x (Err kind) ≡ Ok a → (test ≡ true) × (x ≡ Ok a)
-passed true x kind a is = (refl, is)
-passed false x kind a is = cc
-
-pub not_refused : {A : Type 0} (test : Bool) (x : Result A FaultKind) (kind : FaultKind) (a : A) → cond test (Err kind) x ≡ Ok a → (test ≡ false) × (x ≡ Ok a)
-not_refused true x kind a is = cc
-not_refused false x kind a is = (refl, is)
-
--- what is of one result is of the other
-pub ok_is : {A : Type 0} (r : Result A FaultKind) (a b : A) → r ≡ Ok a → r ≡ Ok b → a ≡ b
-ok_is r a b is is' = cc
+use Rattle.read_in_form.proofs.SameSorts.{one_plain}
+use Rattle.read_in_form.proofs.Steps.{passed, same_ok, stepped}
 
 -- integers
-abbrev AreIntegers : Script → List Binder → List Term → Type 0
+abbrev pub AreIntegers : Script → List Binder → List Term → Type 0
 AreIntegers script scope [] = Unit {0}
 AreIntegers script scope (t ∷ ts) = HasSort script scope t plain.Int × AreIntegers script scope ts
 
-int_plain : (p : Plain) → sort.Int ≡ plain_sort p → p ≡ plain.Int
-int_plain plain.Truth is = cc
-int_plain plain.Int is = refl
-int_plain (plain.Elem s) is = cc
-
 int_term : (script : Script) (scope : List Binder) (t : Term) → IsTermOf script scope sort.Int t → HasSort script scope t plain.Int
-int_term script scope t h = subst (λ (p : Plain). HasSort script scope t p) (int_plain h.is h.sort) h.term
+int_term script scope t h = subst (λ (p : Plain). HasSort script scope t p) (one_plain h.is plain.Int (sym h.sort)) h.term
 
 pub term_int : (script : Script) (scope : List Binder) (t : Term) → HasSort script scope t plain.Int → IsTermOf script scope sort.Int t
 term_int script scope t h = record { is = plain.Int; sort = refl; index = tt; term = h }
@@ -69,14 +42,14 @@ integer_of script scope next (meaning.Array i e a) t h is = cc
 integer_of script scope next (meaning.Term sort.Truth u) t h is = cc
 integer_of script scope next (meaning.Term (sort.Elem s) u) t h is = cc
 integer_of script scope next (meaning.Term (sort.Array i e) u) t h is = cc
-integer_of script scope next (meaning.Term sort.Int u) t h is = subst (λ (v : Term). HasSort script scope v plain.Int) (ok_is (Ok u) u t refl is) (int_term script scope u h)
+integer_of script scope next (meaning.Term sort.Int u) t h is = subst (λ (v : Term). HasSort script scope v plain.Int) (same_ok u t is) (int_term script scope u h)
 
-integers_of : (script : Script) (scope : List Binder) (next : ℕ) (ms : List Meaning) (ts : List Term) → AreMeanings script scope next ms → as_integers ms ≡ Ok ts → AreIntegers script scope ts
-integers_of script scope next [] ts hs is = subst (AreIntegers script scope) (ok_is (Ok []) [] ts refl is) tt
+pub integers_of : (script : Script) (scope : List Binder) (next : ℕ) (ms : List Meaning) (ts : List Term) → AreMeanings script scope next ms → as_integers ms ≡ Ok ts → AreIntegers script scope ts
+integers_of script scope next [] ts hs is = subst (AreIntegers script scope) (same_ok [] ts is) tt
 integers_of script scope next (m ∷ ms) ts hs is =
-    let head = step_of (as_integer m) _ ts is in
-    let tail = step_of (as_integers ms) _ ts head.rest in
-    subst (AreIntegers script scope) (ok_is (Ok (head.value ∷ tail.value)) (head.value ∷ tail.value) ts refl tail.rest)
+    let head = stepped (as_integer m) _ ts is in
+    let tail = stepped (as_integers ms) _ ts head.rest in
+    subst (AreIntegers script scope) (same_ok (head.value ∷ tail.value) ts tail.rest)
     (integer_of script scope next m head.value hs.0 head.first, integers_of script scope (next + variables_of m) ms tail.value hs.1 tail.first)
 
 -- the base of a sum
@@ -108,7 +81,7 @@ term_has script scope (Some t) n h within = plus_has script scope t n h.0 h.1 wi
 summed_has : (script : Script) (scope : List Binder) (base : Option Term) (n : ℤ) (t : Term) → IsBaseOf script scope base → summed base n ≡ Ok t → HasSort script scope t plain.Int
 summed_has script scope base n t h is =
     let test = passed (is_within (limit_of base) n) (Ok (term_of base n)) OffsetTooWide t is in
-    subst (λ (u : Term). HasSort script scope u plain.Int) (ok_is (Ok (term_of base n)) (term_of base n) t refl test.1) (term_has script scope base n h test.0)
+    subst (λ (u : Term). HasSort script scope u plain.Int) (same_ok (term_of base n) t test.1) (term_has script scope base n h test.0)
 
 pub moved_has : (script : Script) (scope : List Binder) (t : Term) (n : ℤ) (u : Term) → HasSort script scope t plain.Int → summed (sum_of t).base n ≡ Ok u → HasSort script scope u plain.Int
 moved_has script scope t n u h is = summed_has script scope (sum_of t).base n u (base_of script scope t h) is
@@ -135,12 +108,12 @@ beside_has script scope (u ∷ v ∷ us) n t hs is = cc
 integer_placed : (script : Script) (scope : List Binder) (next : ℕ) (r : Result Term FaultKind) (m : Meaning) → ((t : Term) → r ≡ Ok t → HasSort script scope t plain.Int) → integer_meant r ≡ Ok m → IsMeaning script scope next m
 integer_placed script scope next (Err kind) m has is = cc
 integer_placed script scope next (Ok t) m has is =
-    subst (IsMeaning script scope next) (ok_is (Ok (meaning.Term sort.Int t)) (meaning.Term sort.Int t) m refl is) (term_int script scope t (has t refl))
+    subst (IsMeaning script scope next) (same_ok (meaning.Term sort.Int t) m is) (term_int script scope t (has t refl))
 
 pub addition_placed : (script : Script) (scope : List Binder) (next : ℕ) (args : List Meaning) (m : Meaning) → AreMeanings script scope next args → addition args ≡ Ok m → IsMeaning script scope next m
 addition_placed script scope next args m hs is =
     let some = passed _ _ WrongCount m is in
-    let terms = step_of (as_integers args) _ m some.1 in
+    let terms = stepped (as_integers args) _ m some.1 in
     let are = integers_of script scope next args terms.value hs terms.first in
     integer_placed script scope next (sum_of_terms (map sum_of terms.value)) m
     (λ t made. beside_has script scope (bases_of (map sum_of terms.value)) (total_of (map sum_of terms.value)) t (bases_are script scope terms.value are) made)
@@ -157,14 +130,14 @@ negation_has script scope (Some u) n t is = cc
 side_placed : (script : Script) (scope : List Binder) (next : ℕ) (r : Result Term FaultKind) (s : Side) → ((t : Term) → r ≡ Ok t → HasSort script scope t plain.Int) → meant (integer_meant r) ≡ Ok s → IsSideMeaning script scope next s
 side_placed script scope next (Err kind) s has is = cc
 side_placed script scope next (Ok t) s has is =
-    subst (IsSideMeaning script scope next) (ok_is (Ok (Meant (meaning.Term sort.Int t))) (Meant (meaning.Term sort.Int t)) s refl is) (term_int script scope t (has t refl))
+    subst (IsSideMeaning script scope next) (same_ok (Meant (meaning.Term sort.Int t)) s is) (term_int script scope t (has t refl))
 
 two_placed : (script : Script) (scope : List Binder) (next : ℕ) (t u : Term) (numeral : Bool) (s : Side) → HasSort script scope t plain.Int → HasSort script scope u plain.Int →
     cond numeral (meant (integer_meant (difference (sum_of t) (sum_of u ∷ [])))) (Ok (Difference t u)) ≡ Ok s → IsSideMeaning script scope next s
 two_placed script scope next t u true s ht hu is =
     side_placed script scope next (difference (sum_of t) (sum_of u ∷ [])) s (λ v made. less_has script scope (sum_of t) (bases_of (sum_of u ∷ [])) (total_of (sum_of u ∷ [])) v (base_of script scope t ht) made) is
 two_placed script scope next t u false s ht hu is =
-    subst (IsSideMeaning script scope next) (ok_is (Ok (Difference t u)) (Difference t u) s refl is) (record { first = ht; second = hu })
+    subst (IsSideMeaning script scope next) (same_ok (Difference t u) s is) (record { first = ht; second = hu })
 
 subtracted_placed : (script : Script) (scope : List Binder) (next : ℕ) (ts : List Term) (s : Side) → AreIntegers script scope ts → subtracted ts ≡ Ok s → IsSideMeaning script scope next s
 subtracted_placed script scope next [] s hs is = cc
@@ -178,5 +151,5 @@ subtracted_placed script scope next (t ∷ u ∷ v ∷ ts) s hs is =
 pub subtraction_placed : (script : Script) (scope : List Binder) (next : ℕ) (args : List Meaning) (s : Side) → AreMeanings script scope next args → subtraction args ≡ Ok s → IsSideMeaning script scope next s
 subtraction_placed script scope next args s hs is =
     let some = passed _ _ WrongCount s is in
-    let terms = step_of (as_integers args) _ s some.1 in
+    let terms = stepped (as_integers args) _ s some.1 in
     subtracted_placed script scope next terms.value s (integers_of script scope next args terms.value hs terms.first) terms.rest

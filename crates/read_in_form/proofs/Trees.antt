@@ -1,5 +1,5 @@
 -- Each tree reads as something in form.
-use Rattle.std.proofs.Common.{◌≡◌, ◌≤◌, ◌<◌, ℕ, ◌-◌, ◌^◌, ℤ, pos, Bool, true, false, cond, leb, ltb, List, [], ◌∷◌, codes, Result, Ok, Err, refl, sym, subst, arith, if◌then◌else◌}
+use Rattle.std.proofs.Common.{◌≡◌, ◌≤◌, ◌<◌, ℕ, ◌-◌, ◌^◌, pos, Bool, true, false, cond, leb, ltb, List, [], codes, Result, Ok, Err, refl, sym, subst, arith, if◌then◌else◌}
 use Rattle.std.specs.Str.Parse.{digits_value}
 use Rattle.std.proofs.lemmas.Bool.Decides.{nat_tests}
 use Rattle.mbqi_values.specs.declared.fault.FaultKind.{FaultKind}
@@ -15,12 +15,11 @@ use Rattle.sexpr_text.specs.declared.tree.Sexpr.TheVariants as tree
 use Rattle.smtlib_terms.specs.declared.meaning.Meaning.{Meaning}
 use Rattle.smtlib_terms.specs.declared.meaning.Meaning.TheVariants as meaning
 use Rattle.smtlib_terms.specs.declared.meaning.Side.{Side}
-use Rattle.smtlib_terms.specs.declared.meaning.Side.TheVariants.{Meant}
 use Rattle.smtlib_terms.specs.declared.names.Binding.{Binding}
 use Rattle.smtlib_terms.specs.Applying.{name_applied}
 use Rattle.smtlib_terms.specs.Names.{Signature}
 use Rattle.smtlib_terms.specs.Operators.{meant}
-use Rattle.smtlib_terms.specs.Reading.{inner, inner_of, list_read, numeral, parts_of, readings, readings_of, side, symbol}
+use Rattle.smtlib_terms.specs.Reading.{inner, inner_of, numeral, parts_of, readings, readings_of, side, symbol}
 use Rattle.smtlib_terms.specs.Words.{is_text}
 use Rattle.measured_terms.proofs.FormulaLaws as formula_measure
 use Rattle.measured_terms.proofs.TermLaws as term_measure
@@ -30,7 +29,7 @@ use Rattle.read_in_form.proofs.MovedFormulas.{bound_read}
 use Rattle.read_in_form.proofs.NamesApplied.{name_alone}
 use Rattle.read_in_form.proofs.Parts.{AreGood, AreGoodLists, AreGoodParts, IsGood, IsPlace}
 use Rattle.read_in_form.proofs.Placed.{IsPlaced, IsRead, IsReadSide}
-use Rattle.read_in_form.proofs.Steps.{MeantBy, meant_by}
+use Rattle.read_in_form.proofs.Steps.{meant_by}
 
 -- a meaning as a side
 read_is_side : (script : Script) (scope : List Binder) (next : ℕ) (r : Result Meaning FaultKind) (s : Side) → ((m : Meaning) → r ≡ Ok m → IsRead script scope next m) → meant r ≡ Ok s → IsReadSide script scope next s

@@ -14,7 +14,7 @@ use Rattle.read_in_form.proofs.Arrays.{defaulting_placed, selection_placed, stor
 use Rattle.read_in_form.proofs.Comparisons.{at_most_order, below_order, difference_placed, equality_placed, ordered_placed, turned}
 use Rattle.read_in_form.proofs.Connectives.{choice_placed, conjunction_placed, disjunction_placed, exclusion_placed, implication_placed, negated_placed}
 use Rattle.read_in_form.proofs.Placed.{AreMeanings, IsMeaning, IsPlaced}
-use Rattle.read_in_form.proofs.Steps.{Stepped, stepped}
+use Rattle.read_in_form.proofs.Steps.{stepped}
 use Rattle.read_in_form.proofs.Sums.{addition_placed}
 
 formula_is : (script : Script) (scope : List Binder) (next : ℕ) (r : Result Formula FaultKind) (m : Meaning) → ((f : Formula) → r ≡ Ok f → IsPlaced script scope next f) → formula_meant r ≡ Ok m → IsMeaning script scope next m

@@ -1,5 +1,7 @@
-//! What is read is in form.
+//! Each script that is read is in form, and so its canonical text means it.
 //!
-//! Start with `specs/`. There is no code to run.
+//! Start with [`laws`]. There is no code to run.
 
 #![tactic(auto)]
+
+pub mod laws;
