@@ -8,7 +8,6 @@ use Rattle.mbqi_terms.specs.declared.sort.Sort.{Sort}
 use Rattle.sexpr_text.specs.declared.tree.Sexpr.{Sexpr}
 use Rattle.smtlib_terms.specs.declared.names.Binding.{Binding}
 use Rattle.smtlib_terms.specs.declared.names.Variable.{Variable}
-use Rattle.smtlib_terms.specs.Names.{◌>>=◌}
 use Rattle.smtlib_terms.specs.Reading.{are_binders, bindable, binder_name, binder_sort, binders_of, binding_of, quantifiable, quantifier_binders, second_sort, trees_in}
 use Rattle.printed_trees.specs.InForm.{ArePlaced, IsVariableSort, sort_at}
 use Rattle.printed_trees.specs.Scripts.{IsResultSort}
@@ -16,7 +15,7 @@ use Rattle.read_in_form.proofs.Placed.{AreBinders, Extends, IsBelow, IsScope}
 use Rattle.read_in_form.proofs.SameSorts.{same_number}
 use Rattle.read_in_form.proofs.Scopes.{scope_more}
 use Rattle.read_in_form.proofs.SortsRead.{quantifiable_is, sort_read_is}
-use Rattle.read_in_form.proofs.Steps.{passed, stepped}
+use Rattle.read_in_form.proofs.Steps.{passed, same_ok, stepped}
 
 abbrev pub binders_in : List Variable → List Binder
 binders_in vs = map (λ (v : Variable). v.binder) vs
@@ -28,30 +27,50 @@ second_sort_is script sorts (a ∷ []) s fewer is = cc
 second_sort_is script sorts (a ∷ b ∷ []) s fewer is = sort_read_is script sorts b s fewer is
 second_sort_is script sorts (a ∷ b ∷ c ∷ ts) s fewer is = cc
 
+-- the first binder of a list, and the others
+record IsFirst (sorts : List (List ℕ)) (t : Sexpr) (ts : List Sexpr) (place : ℕ) (seen : List (List ℕ)) (vs : List Variable) : Type 0 where
+  pub named : Sort
+  pub variable : Variable
+  pub rest : List Variable
+  pub sort : binder_sort t sorts ≡ Ok named
+  pub kept : quantifiable named ≡ Ok variable.binder.sort
+  pub at : variable.binder.place ≡ place
+  pub more : binders_of ts sorts (place + 1) (seen ++ variable.name ∷ []) ≡ Ok rest
+  pub all : variable ∷ rest ≡ vs
+
+first_binder : (sorts : List (List ℕ)) (t : Sexpr) (ts : List Sexpr) (place : ℕ) (seen : List (List ℕ)) (vs : List Variable) → binders_of (t ∷ ts) sorts place seen ≡ Ok vs → IsFirst sorts t ts place seen vs
+first_binder sorts t ts place seen vs is =
+    let any = stepped (binder_sort t sorts) _ vs is in
+    let own = stepped (quantifiable any.value) _ vs any.rest in
+    let name = stepped (bindable (binder_name t) seen) _ vs own.rest in
+    let more = stepped (binders_of ts sorts (place + 1) (seen ++ name.value ∷ [])) _ vs name.rest in
+    record {
+      named = any.value;
+      variable = record { name = name.value; binder = record { place = place; sort = own.value } };
+      rest = more.value;
+      sort = any.first;
+      kept = own.first;
+      at = refl;
+      more = more.first;
+      all = same_ok _ vs more.rest;
+    }
+
 -- binders have places in order, and sorts that a variable may have
 binders_placed : (script : Script) (sorts : List (List ℕ)) (ts : List Sexpr) (place : ℕ) (seen : List (List ℕ)) (vs : List Variable) → length sorts ≤ length script.sorts → binders_of ts sorts place seen ≡ Ok vs → ArePlaced script place (binders_in vs)
 binders_placed script sorts [] place seen [] fewer is = tt
 binders_placed script sorts [] place seen (v ∷ vs) fewer is = cc
 binders_placed script sorts (t ∷ ts) place seen vs fewer is =
-    let any = stepped (binder_sort t sorts) (λ (any : Sort). quantifiable any >>= (λ (s : Sort). bindable (binder_name t) seen >>= (λ (name : List ℕ). binders_of ts sorts (place + 1) (seen ++ name ∷ []) >>= (λ (bs : List Variable). Ok (record { name = name; binder = record { place = place; sort = s } } ∷ bs))))) vs is in
-    let own = stepped (quantifiable any.value) (λ (s : Sort). bindable (binder_name t) seen >>= (λ (name : List ℕ). binders_of ts sorts (place + 1) (seen ++ name ∷ []) >>= (λ (bs : List Variable). Ok (record { name = name; binder = record { place = place; sort = s } } ∷ bs)))) vs any.rest in
-    let name = stepped (bindable (binder_name t) seen) (λ (name : List ℕ). binders_of ts sorts (place + 1) (seen ++ name ∷ []) >>= (λ (bs : List Variable). Ok (record { name = name; binder = record { place = place; sort = own.value } } ∷ bs))) vs own.rest in
-    let more = stepped (binders_of ts sorts (place + 1) (seen ++ name.value ∷ [])) (λ (bs : List Variable). Ok (record { name = name.value; binder = record { place = place; sort = own.value } } ∷ bs)) vs name.rest in
-    let first : Variable = record { name = name.value; binder = record { place = place; sort = own.value } } in
-    let all : first ∷ more.value ≡ vs = cc in
-    subst (λ (us : List Variable). ArePlaced script place (binders_in us)) {x = first ∷ more.value} all
-    (refl, quantifiable_is script any.value own.value (second_sort_is script sorts (trees_in t) any.value fewer any.first) own.first, binders_placed script sorts ts (place + 1) (seen ++ name.value ∷ []) more.value fewer more.first)
+    let first = first_binder sorts t ts place seen vs is in
+    subst (λ (us : List Variable). ArePlaced script place (binders_in us)) {x = first.variable ∷ first.rest} first.all (
+      first.at,
+      quantifiable_is script first.named first.variable.binder.sort (second_sort_is script sorts (trees_in t) first.named fewer first.sort) first.kept,
+      binders_placed script sorts ts (place + 1) (seen ++ first.variable.name ∷ []) first.rest fewer first.more,
+    )
 
 -- there is at least one
 some_read : (sorts : List (List ℕ)) (t : Sexpr) (ts : List Sexpr) (place : ℕ) (seen : List (List ℕ)) (vs : List Variable) → binders_of (t ∷ ts) sorts place seen ≡ Ok vs → 0 < length (binders_in vs)
 some_read sorts t ts place seen (v ∷ vs) is = omega arith
-some_read sorts t ts place seen [] is =
-    let any = stepped (binder_sort t sorts) (λ (any : Sort). quantifiable any >>= (λ (s : Sort). bindable (binder_name t) seen >>= (λ (name : List ℕ). binders_of ts sorts (place + 1) (seen ++ name ∷ []) >>= (λ (bs : List Variable). Ok (record { name = name; binder = record { place = place; sort = s } } ∷ bs))))) [] is in
-    let own = stepped (quantifiable any.value) (λ (s : Sort). bindable (binder_name t) seen >>= (λ (name : List ℕ). binders_of ts sorts (place + 1) (seen ++ name ∷ []) >>= (λ (bs : List Variable). Ok (record { name = name; binder = record { place = place; sort = s } } ∷ bs)))) [] any.rest in
-    let name = stepped (bindable (binder_name t) seen) (λ (name : List ℕ). binders_of ts sorts (place + 1) (seen ++ name ∷ []) >>= (λ (bs : List Variable). Ok (record { name = name; binder = record { place = place; sort = own.value } } ∷ bs))) [] own.rest in
-    let more = stepped (binders_of ts sorts (place + 1) (seen ++ name.value ∷ [])) (λ (bs : List Variable). Ok (record { name = name.value; binder = record { place = place; sort = own.value } } ∷ bs)) [] name.rest in
-    let none : (record { name = name.value; binder = record { place = place; sort = own.value } } ∷ more.value) ≡ [] = cc in
-    cc
+some_read sorts t ts place seen [] is = let none = (first_binder sorts t ts place seen [] is).all in cc
 
 binders_listed : (script : Script) (sorts : List (List ℕ)) (ts : List Sexpr) (place : ℕ) (vs : List Variable) → length sorts ≤ length script.sorts → cond (are_binders ts) (binders_of ts sorts place []) (Err BadForm) ≡ Ok vs → AreBinders script place (binders_in vs)
 binders_listed script sorts [] place vs fewer is = cc

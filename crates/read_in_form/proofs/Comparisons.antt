@@ -46,9 +46,10 @@ still_meanings script scope next s (m ∷ ms) are sorts none =
     let sort = both_true (is_sort s (sort_of m)) (have_sort s ms) sorts in
     let closed = neither (is_quantified_meaning m) (list_any is_quantified_meaning ms) none in
     let own = closed_meaning m closed.0 in
-    let here : next + variables_of m ≡ next = omega arith in
-    (record { is = are.0; closed = own; sort = same_sort s (sort_of m) sort.0 },
-    still_meanings script scope next s ms (subst (λ (at : ℕ). AreMeanings script scope at ms) here are.1) sort.1 closed.1)
+    let here : next + variables_of m ≡ next = omega arith in (
+      record { is = are.0; closed = own; sort = same_sort s (sort_of m) sort.0 },
+      still_meanings script scope next s ms (subst (λ (at : ℕ). AreMeanings script scope at ms) here are.1) sort.1 closed.1,
+    )
 
 -- two of them
 no_truth : (script : Script) (p : Plain) → IsIndexSort script p → sort.Truth ≡ plain_sort p → ⊥

@@ -173,14 +173,14 @@ headed_is_read script (Constant t) ps good names scope bindings next s at is =
     let sort = stepped (sort_meant t names.sorts) (λ (s : Sort). meant (parts_read ps names bindings next >>= constant s)) s is in
     meant_is_side script scope next (parts_read ps names bindings next >>= constant sort.value) s
     (λ m e.
-      let args = stepped (parts_read ps names bindings next) (constant sort.value) m e in
-      constant_placed script scope next sort.value args.value m (sort_read_is script names.sorts t sort.value at.signature.sorts sort.first) (parts_are_read script ps names scope bindings next args.value good at args.first) args.rest)
+    let args = stepped (parts_read ps names bindings next) (constant sort.value) m e in
+    constant_placed script scope next sort.value args.value m (sort_read_is script names.sorts t sort.value at.signature.sorts sort.first) (parts_are_read script ps names scope bindings next args.value good at args.first) args.rest)
     sort.rest
 headed_is_read script (Mapped f) ps good names scope bindings next s at is =
     meant_is_side script scope next (parts_read ps names bindings next >>= mapped names bindings f) s
     (λ m e.
-      let args = stepped (parts_read ps names bindings next) (mapped names bindings f) m e in
-      mapped_placed script names scope next bindings f args.value m at.signature (parts_are_read script ps names scope bindings next args.value good at args.first) args.rest)
+    let args = stepped (parts_read ps names bindings next) (mapped names bindings f) m e in
+    mapped_placed script names scope next bindings f args.value m at.signature (parts_are_read script ps names scope bindings next args.value good at args.first) args.rest)
     is
 headed_is_read script (Named w text) ps good names scope bindings next s at is = named_is_read script w text ps good names scope bindings next s at is
 

@@ -139,9 +139,11 @@ record AreOver (script : Script) (scope : List Binder) (i : Plain) (places : Lis
 
 more_over : (script : Script) (scope : List Binder) (i : Plain) (s : Sort) (ss : List Sort) (m : Meaning) (ms : List Meaning) → IsOver script scope i s m → AreOver script scope i ss ms → AreOver script scope i (s ∷ ss) (m ∷ ms)
 more_over script scope i s ss m ms a rest =
-    record { elements = a.element ∷ rest.elements;
-    same = ap (λ (r : Sort). r ∷ ss) a.sort ∙ ap (λ (more : List Sort). plain_sort a.element ∷ more) rest.same;
-    arrays = subst (λ (n : Meaning). AreArrays script scope (arrays_of (n ∷ ms)) i (a.element ∷ rest.elements)) (sym a.meaning) (AreArrays.more_arrays a.term (arrays_of ms) i a.element rest.elements a.array rest.arrays) }
+    record {
+      elements = a.element ∷ rest.elements;
+      same = ap (λ (r : Sort). r ∷ ss) a.sort ∙ ap (λ (more : List Sort). plain_sort a.element ∷ more) rest.same;
+      arrays = subst (λ (n : Meaning). AreArrays script scope (arrays_of (n ∷ ms)) i (a.element ∷ rest.elements)) (sym a.meaning) (AreArrays.more_arrays a.term (arrays_of ms) i a.element rest.elements a.array rest.arrays);
+    }
 
 over_are : (script : Script) (scope : List Binder) (next : ℕ) (i : Plain) (places : List Sort) (args : List Meaning) → AreMeanings script scope next args → are_over i places args ≡ true → AreOver script scope i places args
 over_are script scope next i [] [] are e = record { elements = []; same = refl; arrays = AreArrays.no_arrays i }

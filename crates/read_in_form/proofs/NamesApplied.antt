@@ -67,9 +67,11 @@ record AreArguments (script : Script) (scope : List Binder) (sorts : List Sort) 
 
 more_arguments : (script : Script) (scope : List Binder) (s : Sort) (ss : List Sort) (m : Meaning) (ms : List Meaning) → IsArgument script scope s m → AreArguments script scope ss ms → AreArguments script scope (s ∷ ss) (m ∷ ms)
 more_arguments script scope s ss m ms a as' =
-    record { plains = a.is ∷ as'.plains;
-    same = ap (λ (r : Sort). r ∷ ss) a.sort ∙ ap (λ (rest : List Sort). plain_sort a.is ∷ rest) as'.same;
-    terms = subst (λ (n : Meaning). HaveSorts script scope (terms_of (n ∷ ms)) (a.is ∷ as'.plains)) (sym a.meaning) (HaveSorts.more_terms a.term (terms_of ms) a.is as'.plains a.index a.has as'.terms) }
+    record {
+      plains = a.is ∷ as'.plains;
+      same = ap (λ (r : Sort). r ∷ ss) a.sort ∙ ap (λ (rest : List Sort). plain_sort a.is ∷ rest) as'.same;
+      terms = subst (λ (n : Meaning). HaveSorts script scope (terms_of (n ∷ ms)) (a.is ∷ as'.plains)) (sym a.meaning) (HaveSorts.more_terms a.term (terms_of ms) a.is as'.plains a.index a.has as'.terms);
+    }
 
 arguments_are : (script : Script) (scope : List Binder) (next : ℕ) (sorts : List Sort) (args : List Meaning) → AllByRecursion (IsVariableSort script) sorts → AreValues script scope next args → have_sorts sorts args ≡ true → AreArguments script scope sorts args
 arguments_are script scope next [] [] all values e = record { plains = []; same = refl; terms = HaveSorts.no_terms }
@@ -128,8 +130,10 @@ function_is script scope next args (Some f) m values each e =
     let fit = fits f.1.args args (Ok (application f.0 args f.1.result)) m e in
     let same : application f.0 args f.1.result ≡ m = let was = fit.1 in cc in
     let applied : IsApplied script scope next args (application f.0 args f.1.result) =
-    record { meaning = application_is script scope next f.0 f.1 args (each f.0 f.1 refl) values fit.0;
-    depth = λ none. let one : depth_of (application f.0 args f.1.result) ≡ 1 = ap (λ (ms : List Meaning). depth_of (application f.0 ms f.1.result)) none ∙ alone_depth f.0 f.1.result in omega arith } in
+    record {
+      meaning = application_is script scope next f.0 f.1 args (each f.0 f.1 refl) values fit.0;
+      depth = λ none. let one : depth_of (application f.0 args f.1.result) ≡ 1 = ap (λ (ms : List Meaning). depth_of (application f.0 ms f.1.result)) none ∙ alone_depth f.0 f.1.result in omega arith;
+    } in
     subst (IsApplied script scope next args) same applied
 
 -- a macro, or else a function

@@ -32,7 +32,7 @@ get_more : {X : Type 0} (xs : List X) (x : X) (i : ℕ) (y : X) → slice_get (x
 get_more [] x zero y e = inr (refl, cc)
 get_more [] x (suc i) y e = cc
 get_more (z ∷ xs) x zero y e = inl e
-get_more (z ∷ xs) x (suc i) y e = elim (get_more xs x i y e) [ | inl before ↦ inl before | inr last ↦ inr (ap suc last.0, last.1) ]
+get_more (z ∷ xs) x (suc i) y e = elim (get_more xs x i y e) [ inl before ↦ inl before | inr last ↦ inr (ap suc last.0, last.1) ]
 
 -- Items of which no two are related, and a last one that is related to none of them.
 apart_more : {X : Type 0} (R : X → X → Type 0) (xs : List X) (x : X) →
@@ -42,13 +42,13 @@ apart_more : {X : Type 0} (R : X → X → Type 0) (xs : List X) (x : X) →
 apart_more R xs x apart before behind i j a b e f r =
     elim (get_more xs x i a e) [
       | inl first ↦ elim (get_more xs x j b f) [
-          | inl second ↦ apart i j a b first second r
-          | inr last ↦ absurd (before i a first (subst (λ y. R a y) (sym last.1) r))
-        ]
+        | inl second ↦ apart i j a b first second r
+        | inr last ↦ absurd (before i a first (subst (λ y. R a y) (sym last.1) r))
+      ]
       | inr last ↦ elim (get_more xs x j b f) [
-          | inl second ↦ absurd (behind j b second (subst (λ y. R y b) (sym last.1) r))
-          | inr other ↦ last.0 ∙ sym other.0
-        ]
+        | inl second ↦ absurd (behind j b second (subst (λ y. R y b) (sym last.1) r))
+        | inr other ↦ last.0 ∙ sym other.0
+      ]
     ]
 
 distinct_more : {X : Type 0} (xs : List X) (x : X) → AreDistinct xs → ((k : ℕ) → slice_get xs k ≢ Some x) → AreDistinct (xs ++ x ∷ [])

@@ -30,9 +30,12 @@ record IsFoundAt (at : ℕ) (fs : List Function) (number : ℕ) (g : Function) :
   pub place : number ≡ at + index
   pub there : slice_get fs index ≡ Some g
 
+same_pair : (a b : ℕ × Function) → ◌≡◌ {A = Option (ℕ × Function)} (Some a) (Some b) → a ≡ b
+same_pair a b is = cc
+
 first_or_rest : (at : ℕ) (f : Function) (fs : List Function) (own : Bool) (rest : Option (ℕ × Function)) (number : ℕ) (g : Function) → (rest ≡ Some (number, g) → IsFoundAt (at + 1) fs number g) → cond own (Some (at, f)) rest ≡ Some (number, g) → IsFoundAt at (f ∷ fs) number g
 first_or_rest at f fs true rest number g later found =
-    let same : (at, f) ≡ (number, g) = cc in
+    let same = same_pair (at, f) (number, g) found in
     let place : at ≡ number = ap (λ (pair : ℕ × Function). pair.0) same in
     let function : f ≡ g = ap (λ (pair : ℕ × Function). pair.1) same in
     record { index = 0; place = omega arith; there = ap (λ (h : Function). Some h) function }
@@ -49,8 +52,8 @@ part_is_placed : (script : Script) (d : Declarations) (t : Sexpr) (f : Formula) 
 part_is_placed script d t f part read =
     formula_is_read script d t f part.sorts
     (λ name number g found.
-      let at = found_at name 0 d.functions number g found in
-      subst (λ (n : ℕ). IsFunction script n g) (let place = at.place in let same : at.index ≡ number = omega arith in same) (part.functions at.index g at.there))
+    let at = found_at name 0 d.functions number g found in
+    subst (λ (n : ℕ). IsFunction script n g) (let place = at.place in let same : at.index ≡ number = omega arith in same) (part.functions at.index g at.there))
     read
 
 few_places : (script : Script) → length (script_text script) ≤ 2 ^ 64 → All (λ (a : Assertion). IsPlaced script [] 0 a.formula → variables_in a.formula ≤ 2 ^ 64) script.assertions

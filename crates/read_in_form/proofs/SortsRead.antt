@@ -47,6 +47,7 @@ array_is script (sort.Array j f) e s index element is = cc
 
 mutual
   unfolding sort_meant
+
   pub sort_read_is : (script : Script) (sorts : List (List ℕ)) (t : Sexpr) (s : Sort) → length sorts ≤ length script.sorts → sort_meant t sorts ≡ Ok s → IsResultSort script s
   sort_read_is script sorts (tree.Symbol name) s fewer e = name_is script sorts name s fewer e
   sort_read_is script sorts (tree.List' n row) s fewer e = row_read_is script sorts row s fewer e
