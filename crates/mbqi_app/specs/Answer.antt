@@ -1,4 +1,4 @@
-use Rattle.std.specs.Prelude.{◌≡◌, ℕ, ◌+◌, ◌<◌, ◌≤◌, ◌⊎◌, List, [], ◌∷◌, length, take, Option, None, Some, Bool, true, false, Result, Ok, Err}
+use Rattle.std.specs.Prelude.{◌≡◌, ℕ, ◌+◌, ◌<◌, ◌≤◌, ◌⊎◌, List, [], ◌∷◌, length, take, All, Option, None, Some, Bool, true, false, Result, Ok, Err}
 use Rattle.mbqi_values.specs.declared.fault.ReadError.{ReadError}
 use Rattle.mbqi_values.specs.declared.fault.ReadError.TheVariants as error
 use Rattle.mbqi_values.specs.declared.fault.FaultKind.TheVariants.{Unsupported}
@@ -9,12 +9,14 @@ use Rattle.mbqi_edge.specs.Faults.{Rose}
 use Rattle.mbqi_edge.specs.Files.{Files, Has, Tells}
 use Rattle.mbqi_edge.specs.Told.{with_more}
 use Rattle.mbqi_terms.specs.declared.script.Script.{Script}
+use Rattle.sexpr_text.specs.Depth.{IsShallow}
 use Rattle.function_model.specs.declared.model.FunctionModel.{FunctionModel}
 use Rattle.function_model.specs.Fits.{Fits}
 use Rattle.function_model.specs.Holds.{Holds}
 use Rattle.mbqi_app.specs.Command.{Command, Solve, Print, asked_for, files_of}
 use Rattle.ground_form.specs.Profile.{IsElementary}
 use Rattle.smtlib_decls.specs.Means.{Means, Refused}
+use Rattle.printed_trees.specs.Trees.{script_trees}
 use Rattle.script_text.specs.Text.{script_text}
 use Rattle.mbqi_app.specs.ModelText.{model_text}
 use Rattle.rule_form.specs.Rules.{count}
@@ -55,9 +57,11 @@ IsSolution bytes rise Sat text = IsSatText bytes rise text
 IsSolution bytes rise Unsat text = IsUnsatText bytes rise text
 IsSolution bytes rise status text = ⊥
 
--- What `print` may write for a file, by its status: the canonical text of the script of the bytes.
+-- What `print` may write for a file, by its status: the canonical text of the script of the bytes. It means that script again, where
+-- no place of it has more open brackets than a reader takes.
 abbrev pub IsPrinted : List ℕ → Status → List ℕ → Type 0
-IsPrinted bytes Done text = (script : Script) × Means bytes script × (text ≡ script_text script)
+IsPrinted bytes Done text =
+    (script : Script) × Means bytes script × (text ≡ script_text script) × (All IsShallow (script_trees script) → Means text script)
 IsPrinted bytes status text = ⊥
 
 -- What a command may write for the contents of its files, by its status, after the counter rose so far.

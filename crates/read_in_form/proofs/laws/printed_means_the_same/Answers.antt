@@ -1,5 +1,0 @@
-use Rattle.read_in_form.proofs.ScriptsRead.{printed_again}
-use Rattle.read_in_form.proofs.laws.printed_means_the_same.Goals as goal
-
-pub returns : goal.returns
-returns c = printed_again

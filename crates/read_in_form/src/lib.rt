@@ -1,7 +1,0 @@
-//! Each script that is read is in form, and so its canonical text means it.
-//!
-//! Start with [`laws`]. There is no code to run.
-
-#![tactic(auto)]
-
-pub mod laws;
