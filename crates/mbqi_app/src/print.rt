@@ -1,6 +1,6 @@
 //! `print`: from the bytes of a script to its canonical text.
 
-ghost use Rattle.std.specs.Prelude.{◌≡◌, ◌≤◌, ◌<◌, ◌⊎◌, ◌^◌, ◌∷◌, [], ℕ, List, length, IfOk, IsTrue};
+ghost use Rattle.std.specs.Prelude.{◌≡◌, ◌≤◌, ◌<◌, ◌⊎◌, ◌∷◌, [], ℕ, List, length, IfOk, IsTrue};
 ghost use Rattle.sexpr_text.specs.Forms.{IfRefused};
 ghost use Rattle.mbqi_values.specs.declared.fault.Refusal.{Refusal};
 ghost use Rattle.mbqi_edge.specs.Faults.{Rose};
@@ -84,13 +84,5 @@ fn printed(alloc: Global, bytes: &[u8]) -> Result<Vec<u8>, ReadError>
     let mut text = Vec::new(alloc);
     write_script(&script, &mut text)?;
     printed_means_the_same();
-    byte_count(text.as_slice());
     Ok(text)
-}
-
-/// How many bytes a text in memory has. It is called for its clause, which bounds the places of a printed script's variables.
-fn byte_count(text: &[u8]) -> usize
-    ensures within { length text.now ≤ 2 ^ 64 }
-{
-    text.len()
 }
