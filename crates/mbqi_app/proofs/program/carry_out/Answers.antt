@@ -58,3 +58,9 @@ returns-in-Some-Solve-clause-refuses g c refusal gives =
     let asked = rw c.in-Some-Solve.field-0-is at c.in-Some-Solve.ensures in
     c.solve.ensures.refuses refusal
     (given (map string_bytes c.args.words.now) (g.F.Shelf.files c.args.shelf.now) (IsRefusedAs refusal) (Solve None c.in-Some-Solve.file.now) asked gives)
+
+pub returns-in-Some-Print-clause-asked : goal.returns-in-Some-Print-clause-asked
+returns-in-Some-Print-clause-asked g c =
+    let asked = rw c.in-Some-Print.field-0-is at c.in-Some-Print.ensures in
+    one_asked (g.F.Shelf.asked c.args.shelf.now) (g.F.Shelf.asked c.print.new.shelf) c.in-Some-Print.file.now (asked_for (map string_bytes c.args.words.now))
+    (ap names_of asked) c.print.ensures.asked
