@@ -6,16 +6,19 @@ use Rattle.std.proofs.lemmas.Bool.{ne_eqb}
 use Rattle.std.proofs.lemmas.List.{drop_more}
 use Rattle.std.proofs.lemmas.List.Elements.{All-from_recursion, recursion_from_All}
 use Rattle.std.proofs.lemmas.Option.{slice_get_within, get_or_from_slice_get}
+use Rattle.mbqi_values.specs.declared.value.Value.{Value}
+use Rattle.mbqi_values.specs.declared.value.Value.TheVariants as value
 use Rattle.mbqi_terms.specs.Distinct.{AreDistinct}
 use Rattle.mbqi_terms.specs.declared.script.Function.{Function}
 use Rattle.mbqi_terms.specs.declared.sort.Sort.{Sort}
 use Rattle.function_model.specs.Rising.{AgreeAtSamePlaces}
 use Rattle.function_model.specs.declared.model.Row.{Row}
 use Rattle.function_model.specs.declared.model.Table.{Table}
+use Rattle.function_model.specs.declared.model.TableName.TheVariants.{Declared}
 use Rattle.ground_form.specs.Profile.{is_constant}
 use Rattle.ground_form.specs.declared.atoms.GroundAtom.{GroundAtom}
-use Rattle.element_models.specs.Elements.{constant_table, predicate_table, table_for, tables_from, next_element, no_rows}
-use Rattle.element_models.specs.Filling.{NamesPredicate, with_last, with_row, with_rows}
+use Rattle.element_models.specs.Elements.{knots_of, bare_table, last_value, shown_rows, constant_table, predicate_table, table_for, tables_from, next_element, no_rows}
+use Rattle.element_models.specs.Filling.{NamesPredicate, put_in, with_row, with_rows}
 use Rattle.element_models.specs.Rows.{row_of, rows_of}
 use Rattle.element_models.proofs.AtomRows.{rows_agree}
 
@@ -25,17 +28,17 @@ length_with_row (table ∷ tables) zero row = refl
 length_with_row (table ∷ tables) (suc f) row = ap suc (length_with_row tables f row)
 
 set_is : (tables : List Table) (f : ℕ) (row : Row) (d : Table) → f < length tables
-    → slice_set tables f (with_last (get_or tables f d) row) ≡ with_row tables f row
+    → slice_set tables f (put_in (get_or tables f d).knots (get_or tables f d) row) ≡ with_row tables f row
 set_is [] f row d h = absurd (omega arith)
 set_is (table ∷ tables) zero row d h = refl
 set_is (table ∷ tables) (suc f) row d h = ap (λ rest. table ∷ rest) (set_is tables f row d (omega arith))
 
--- a row pushed onto the rows of the table at a place
-pub put_at : (tables : List Table) (f : ℕ) (row : Row) (table : Table) (rows : List Row) → f < length tables → table ≡ get_or tables f table
-    → rows ≡ table.rows ++ row ∷ [] → slice_set tables f (record table { rows = rows }) ≡ with_row tables f row
-put_at tables f row table rows h is put =
-    ap (λ (rows : List Row). slice_set tables f (record table { rows = rows })) put
-    ∙ (ap (λ (t : Table). slice_set tables f (with_last t row)) is ∙ set_is tables f row table h)
+-- a row put into the table at a place
+pub put_at : (tables : List Table) (f : ℕ) (row : Row) (table put : Table) → f < length tables → table ≡ get_or tables f table
+    → put ≡ put_in table.knots table row → slice_set tables f put ≡ with_row tables f row
+put_at tables f row table put h at is =
+    ap (λ (t : Table). slice_set tables f t) is
+    ∙ (ap (λ (t : Table). slice_set tables f (put_in t.knots t row)) at ∙ set_is tables f row table h)
 
 -- one turn of the loop over the atoms
 pub put_next : (tables : List Table) (atoms : List GroundAtom) (truths : List Bool) (i : ℕ) (atom : GroundAtom) (d : Bool)
@@ -57,12 +60,21 @@ alike rows others f e size (function ∷ functions) same =
     let tail = alike rows others (f + 1) (next_element function e) size functions (λ g h. same g (omega arith)) in
     λ i. head i ∷ tail i
 
+last_of : (v : Value) (rows : List Row) (row : Row) → last_value v (rows ++ row ∷ []) ≡ row.value
+last_of v [] row = refl
+last_of v (first ∷ rows) row = last_of first.value rows row
+
 -- one more row of a predicate
+put_one : (rows : List Row) (row : Row) (f size : ℕ) (args : List Sort)
+    → put_in (knots_of size args) (predicate_table rows f size args) row ≡ predicate_table (rows ++ row ∷ []) f size args
+put_one rows row f size [] = λ i. bare_table (Declared f) (last_of (value.Truth false) rows row (~ i))
+put_one rows row f size (arg ∷ args) = refl
+
 in_predicate : (b : Bool) (rows : List Row) (row : Row) (more : List Row) (f e size : ℕ) (args : List Sort) → b ≡ false → more ≡ rows ++ row ∷ []
-    → with_last (if b then constant_table f e else predicate_table rows f size args) row
+    → (let table = if b then constant_table f e else predicate_table rows f size args in put_in table.knots table row)
     ≡ (if b then constant_table f e else predicate_table more f size args)
 in_predicate true rows row more f e size args bare is = absurd (true≢false bare)
-in_predicate false rows row more f e size args bare is = ap (λ (r : List Row). predicate_table r f size args) (sym is)
+in_predicate false rows row more f e size args bare is = put_one rows row f size args ∙ ap (λ (r : List Row). predicate_table r f size args) (sym is)
 
 with_row_from : (rows more : ℕ → List Row) (row : Row) (f e size k : ℕ) (functions : List Function) (d : Function) → k < length functions
     → is_constant (get_or functions k d) ≡ false → more (f + k) ≡ rows (f + k) ++ row ∷ []
@@ -130,10 +142,14 @@ filled size functions atoms truths many names =
     all_filled no_rows size functions atoms truths many (recursion_from_All (NamesPredicate functions) atoms names)
 
 -- where the rows of each predicate agree, those of each table do
+shown_agree : (rows : List Row) (args : List Sort) → AgreeAtSamePlaces rows → AgreeAtSamePlaces (shown_rows args rows)
+shown_agree rows [] agree a b in_a in_b = absurd (omega (arith, in_a.1))
+shown_agree rows (arg ∷ args) agree a b in_a in_b = agree a b in_a in_b
+
 agree_in : (b : Bool) (rows : List Row) (f e size : ℕ) (args : List Sort) → AgreeAtSamePlaces rows
     → AgreeAtSamePlaces (if b then constant_table f e else predicate_table rows f size args).rows
 agree_in true rows f e size args agree a b in_a in_b = absurd (omega (arith, in_a.1))
-agree_in false rows f e size args agree a b in_a in_b = agree a b in_a in_b
+agree_in false rows f e size args agree a b in_a in_b = shown_agree rows args agree a b in_a in_b
 
 each_agrees : (rows : ℕ → List Row) (f e size : ℕ) (functions : List Function) → ((g : ℕ) → AgreeAtSamePlaces (rows g))
     → AllByRecursion (λ table. AgreeAtSamePlaces table.rows) (tables_from rows f e size functions)

@@ -21,6 +21,7 @@ use Rattle.element_models.specs.Elements.{knots_of, constant_table, predicate_ta
 use Rattle.element_models.specs.Filling.{AreTables, IsRaised}
 use Rattle.element_models.specs.Rows.{rows_of}
 use Rattle.element_models.proofs.AtomRows.{all_rows}
+use Rattle.element_models.proofs.BareTables.{shown_are, default_is_shown}
 use Rattle.element_models.proofs.Counting.{size_of, terms_of, constants_in, length_constants, length_terms}
 use Rattle.element_models.proofs.HiddenTables.{hidden_fit}
 use Rattle.element_models.proofs.Knots.{have_knots, stand}
@@ -63,8 +64,9 @@ module _ (fit : RowsFit) where
     name = is.name;
     fits = record {
       knots = subst (HaveKnots (size ∷ []) args) (sym is.knots) (have_knots size h args each);
-      rows = ordered (size ∷ []) sort.Truth (predicate_table rows f size args) raised is all;
-      default = subst (IsShown (size ∷ []) sort.Truth) (sym is.default) (tt, tt);
+      rows = ordered (size ∷ []) sort.Truth (predicate_table rows f size args) raised is
+          (shown_are (IsRow (size ∷ []) (knots_of size args) sort.Truth) args rows all);
+      default = subst (IsShown (size ∷ []) sort.Truth) (sym is.default) (default_is_shown size (knots_of size args) args rows all);
     };
   }
 

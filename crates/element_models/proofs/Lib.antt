@@ -1,4 +1,5 @@
 pub mod AtomRows
+pub mod BareTables
 pub mod Counting
 pub mod Example
 pub mod Filling

@@ -1,5 +1,5 @@
 -- In the model of atoms with truths each term of the pool is its element, and each atom has its truth.
-use Rattle.std.proofs.Common.{◌≡◌, ℕ, ◌+◌, ◌-◌, ◌<◌, ◌≤◌, Bool, false, List, [], ◌∷◌, length, map, get_or, refl, ap, sym, ◌∙◌, ⊎_elim, arith, rules}
+use Rattle.std.proofs.Common.{◌≡◌, ℕ, ◌+◌, ◌-◌, ◌<◌, ◌≤◌, Bool, false, List, [], ◌∷◌, length, length-map, map, get_or, refl, ap, sym, subst, ◌∙◌, ⊎_elim, arith, rules}
 use Rattle.std.specs.Prelude.{All, Contains, pos}
 use Rattle.std.specs.List.{AllByRecursion, find}
 use Rattle.std.proofs.Math.Seq.{get_or-append_seam}
@@ -12,24 +12,28 @@ use Rattle.mbqi_values.specs.declared.value.Value.TheVariants as value
 use Rattle.mbqi_terms.specs.Distinct.{AreDistinct}
 use Rattle.mbqi_terms.specs.Store.{tree_at}
 use Rattle.mbqi_terms.specs.declared.script.Function.{Function}
+use Rattle.mbqi_terms.specs.declared.sort.Sort.TheVariants as sort
 use Rattle.mbqi_terms.specs.declared.term.Symbol.TheVariants as symbol
 use Rattle.mbqi_terms.specs.declared.term.Term as terms
 use Rattle.mbqi_terms.specs.declared.term.Term.{Term}
 use Rattle.mbqi_terms.specs.declared.term.Term.TheVariants as term
 use Rattle.mbqi_terms.specs.declared.term_id.TermId.{TermId}
+use Rattle.function_model.specs.Fits.{IsRow}
 use Rattle.function_model.specs.Holds.{nowhere, values_in}
-use Rattle.function_model.specs.Lookup.{looked_up, table_where, is_declared, is_seed, value_at}
+use Rattle.function_model.specs.Lookup.{looked_up, looked_up_in, table_where, is_declared, is_seed, value_at}
 use Rattle.function_model.specs.ValueOf.{Point, value_of}
 use Rattle.function_model.specs.declared.model.FunctionModel.{FunctionModel}
 use Rattle.function_model.specs.declared.model.Table.{Table}
 use Rattle.ground_form.specs.Atoms.{Decides, IsOver, atom_tree, atom_at}
-use Rattle.ground_form.specs.Profile.{is_constant, is_element, constants_of, seed}
+use Rattle.ground_form.specs.Profile.{IsPredicate, is_constant, is_element, constants_of, seed}
 use Rattle.ground_form.specs.declared.atoms.GroundAtom.{GroundAtom}
-use Rattle.element_models.specs.Elements.{knots_of, tables_from, hidden_from}
+use Rattle.element_models.specs.Elements.{knots_of, predicate_table, tables_from, hidden_from}
 use Rattle.element_models.specs.Filling.{AreTables}
 use Rattle.element_models.specs.Rows.{element_of, rows_of}
-use Rattle.element_models.proofs.AtomRows.{found, not_found}
+use Rattle.element_models.proofs.AtomRows.{found, not_found, rows_agree}
+use Rattle.element_models.proofs.BareTables.{predicate_gives}
 use Rattle.element_models.proofs.Counting.{size_of, terms_of, length_terms}
+use Rattle.element_models.proofs.Fitting.{wanted_rows}
 use Rattle.element_models.proofs.HiddenTables.{declared_before, seed_behind, first_seed}
 use Rattle.element_models.proofs.Knots.{at_itself, at_only}
 use Rattle.element_models.proofs.Lookups.{table_of, raised_give, predicate_found, constant_found}
@@ -98,10 +102,11 @@ module _ (sizes : List ℕ) (sorts : ℕ) (functions : List Function) (atoms : L
   args_values some (id ∷ ids) below = λ i. element_value some id below.0 i ∷ args_values some ids below.1 i
 
   -- an atom is looked up in the rows of its predicate
-  atom_value : 1 ≤ sorts → (atom : GroundAtom) (is : IsOver functions (terms_of functions) atom)
+  atom_value : 1 ≤ sorts → AreDistinct atoms → All (IsOver functions (terms_of functions)) atoms
+      → (atom : GroundAtom) (is : IsOver functions (terms_of functions) atom)
       → value_of model (atom_tree (terms_of functions) atom) nowhere
       ≡ value_at (rows_of atoms truths atom.predicate) (knots_of (size_of functions) is.predicate.0.args) (map element_of atom.args) (value.Truth false)
-  atom_value some atom is =
+  atom_value some distinct over atom is =
       let function = is.predicate.0 in
       let p = atom.predicate in
       let size = size_of functions in
@@ -114,8 +119,13 @@ module _ (sizes : List ℕ) (sorts : ℕ) (functions : List Function) (atoms : L
       ∙ (ap (looked_up (table_of p given)) (args_values some atom.args (recursion_from_All (λ id. id.0 < length (terms_of functions)) atom.args is.args))
       ∙ (ap (λ g. looked_up (table_of g given) args) (sym number)
       ∙ (ap (λ table. looked_up table args) (predicate_found (rows_of atoms truths) size 0 0 p functions function within predicate)
-      ∙ (ap (λ g. value_at (rows_of atoms truths g) (knots_of size (get_or functions p function).args) args (value.Truth false)) number
-      ∙ ap (λ (f : Function). value_at (rows_of atoms truths p) (knots_of size f.args) args (value.Truth false)) read))))
+      ∙ (ap (λ g. looked_up_in (predicate_table (rows_of atoms truths g) g size (get_or functions p function).args) args) number
+      ∙ (ap (λ (f : Function). looked_up_in (predicate_table (rows_of atoms truths p) p size f.args) args) read
+      ∙ predicate_gives (rows_of atoms truths p) p size function.args args
+      (length-map element_of atom.args ∙ is.predicate.3)
+      (let P : Function → Type 0 = λ f. AllByRecursion (IsRow (size ∷ []) (knots_of size f.args) sort.Truth) (rows_of atoms truths p) in
+      subst P read (wanted_rows functions atoms truths over p function within (subst IsPredicate (sym read) is.predicate.2)))
+      (rows_agree atoms truths p distinct))))))
 
   below_size : (ids : List TermId) → All (λ id. id.0 < length (terms_of functions)) ids → AllByRecursion (λ id. id.0 < size_of functions) ids
   below_size ids below =
@@ -138,13 +148,13 @@ module _ (sizes : List ℕ) (sorts : ℕ) (functions : List Function) (atoms : L
             let is = over k none h in
             let sorts = is.predicate.0.args in
             let below = below_size atom.args is.args in
-            atom_value (some_sort sorted atom is) atom is
+            atom_value (some_sort sorted atom is) distinct over atom is
             ∙ found (knots_of size sorts) (value.Truth false) atoms truths k none distinct many h (at_itself size sorts atom.args is.predicate.3 below)
             (λ places e. at_only size sorts atom.args places below e);
         others = λ atom is missing.
             let sorts = is.predicate.0.args in
             let below = below_size atom.args is.args in
-            atom_value (some_sort sorted atom is) atom is
+            atom_value (some_sort sorted atom is) distinct over atom is
             ∙ not_found (knots_of size sorts) (value.Truth false) atoms truths atom missing
             (λ places e. at_only size sorts atom.args places below e);
       }

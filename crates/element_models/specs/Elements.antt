@@ -1,10 +1,11 @@
 -- The models of elementary scripts (this project's own): each constant is an element of its own, and the last element is that of
 -- the seed, which stands for what has no name.
-use Rattle.std.specs.Prelude.{ℕ, pos, zero, suc, ◌+◌, false, List, [], ◌∷◌, map, if◌then◌else◌}
+use Rattle.std.specs.Prelude.{◌≡◌, ℕ, pos, zero, suc, ◌+◌, false, List, [], ◌∷◌, map, All, if◌then◌else◌}
 use Rattle.mbqi_values.specs.declared.value.Value.{Value}
 use Rattle.mbqi_values.specs.declared.value.Value.TheVariants as value
 use Rattle.mbqi_terms.specs.declared.script.Function.{Function}
 use Rattle.mbqi_terms.specs.declared.sort.Sort.{Sort}
+use Rattle.function_model.specs.declared.model.FunctionModel.{FunctionModel}
 use Rattle.function_model.specs.declared.model.Row.{Row}
 use Rattle.function_model.specs.declared.model.Table.{Table}
 use Rattle.function_model.specs.declared.model.TableName.{TableName}
@@ -27,8 +28,24 @@ bare_table name v = record { name = name; knots = []; rows = []; default = v }
 abbrev pub constant_table : ℕ → ℕ → Table
 constant_table f e = bare_table (Declared f) (value.Elem e)
 
+-- The value of the last row, or another one where there is none.
+abbrev pub last_value : Value → List Row → Value
+last_value v [] = v
+last_value v (row ∷ rows) = last_value row.value rows
+
+-- The rows that a predicate's table shows, by the predicate's arguments: without arguments there are none.
+abbrev pub shown_rows : List Sort → List Row → List Row
+shown_rows [] rows = []
+shown_rows (arg ∷ args) rows = rows
+
+-- A predicate is false where no row says otherwise. Without arguments its default is its value.
+abbrev pub default_of : List Sort → List Row → Value
+default_of [] rows = last_value (value.Truth false) rows
+default_of (arg ∷ args) rows = value.Truth false
+
 abbrev pub predicate_table : List Row → ℕ → ℕ → List Sort → Table
-predicate_table rows f size args = record { name = Declared f; knots = knots_of size args; rows = rows; default = value.Truth false }
+predicate_table rows f size args =
+    record { name = Declared f; knots = knots_of size args; rows = shown_rows args rows; default = default_of args rows }
 
 -- The table of a function, where a predicate of its number has these rows.
 abbrev pub table_for : (ℕ → List Row) → ℕ → ℕ → ℕ → Function → Table
@@ -53,3 +70,7 @@ no_rows f = []
 abbrev pub hidden_from : ℕ → ℕ → ℕ → List Table
 hidden_from e s zero = bare_table Far (value.Num (pos 0)) ∷ []
 hidden_from e s (suc n) = bare_table (Seed s) (value.Elem e) ∷ hidden_from e (s + 1) n
+
+-- No table without arguments has a row: its default is its value.
+abbrev pub NoRowsWithoutArguments : FunctionModel → Type 0
+NoRowsWithoutArguments model = All (λ table. table.knots ≡ [] → table.rows ≡ []) model.tables

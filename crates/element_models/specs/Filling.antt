@@ -21,10 +21,15 @@ NamesPredicate functions atom =
 abbrev pub with_last : Table → Row → Table
 with_last table row = record table { rows = table.rows ++ row ∷ [] }
 
--- Tables with one more row in the table of a number.
+-- A table with a row put into it, by its knots: where it has no arguments, the row's value is its default.
+abbrev pub put_in : List (List Value) → Table → Row → Table
+put_in [] table row = record table { default = row.value }
+put_in (knots ∷ others) table row = with_last table row
+
+-- Tables with a row put into the table of a number.
 abbrev pub with_row : List Table → ℕ → Row → List Table
 with_row [] f row = []
-with_row (table ∷ tables) zero row = with_last table row ∷ tables
+with_row (table ∷ tables) zero row = put_in table.knots table row ∷ tables
 with_row (table ∷ tables) (suc f) row = table ∷ with_row tables f row
 
 -- Tables with a row for each atom.

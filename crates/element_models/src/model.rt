@@ -10,7 +10,7 @@ ghost use Rattle.function_model.specs.Holds.{nowhere, values_in};
 ghost use Rattle.function_model.specs.ValueOf.{value_of};
 ghost use Rattle.ground_form.specs.Profile.{IsElementary};
 ghost use Rattle.ground_form.specs.Atoms.{Decides, IsPool, IsOver};
-ghost use Rattle.element_models.specs.Elements.{tables_from};
+ghost use Rattle.element_models.specs.Elements.{NoRowsWithoutArguments, tables_from};
 ghost use Rattle.element_models.specs.Filling.{AreTables, NamesPredicate};
 ghost use Rattle.element_models.specs.Rows.{rows_of};
 
@@ -38,6 +38,7 @@ pub fn element_model(
     requires over { All (IsOver script.now.functions pool.now.terms) atoms.now }
     requires truths { length truths.now ≡ length atoms.now }
     ensures fits { IfOk result (FitsFull script.now) }
+    ensures bare { IfOk result NoRowsWithoutArguments }
     ensures sizes { IfOk result (λ model. model.sizes ≡ replicate (length script.now.sorts) (length pool.now.terms)) }
     ensures elements { IfOk result (λ model. 1 ≤ length script.now.sorts → (id : TermId) → id.0 < length pool.now.terms
         → value_of model (tree_at pool.now.terms id) nowhere ≡ Elem id.0) }

@@ -3,7 +3,7 @@
 ghost use Rattle.std.specs.Prelude.{◌≡◌, ◌<◌, length, map, All, IfOk, OnOk};
 ghost use Rattle.std.specs.List.{AllZip};
 ghost use Rattle.function_model.specs.Rising.{AgreeAtSamePlaces};
-ghost use Rattle.element_models.specs.Filling.{IsRaised, with_row, with_rows};
+ghost use Rattle.element_models.specs.Filling.{IsRaised, put_in, with_row, with_rows};
 ghost use Rattle.element_models.specs.Rows.{element_of, row_of};
 
 use function_model::{Row, Rows, Table, rising_rows};
@@ -36,12 +36,23 @@ fn row_of(alloc: Global, atom: &GroundAtom, truth: bool) -> Result<Row, AllocErr
     })
 }
 
-/// Puts a row behind the others of a table.
+/// Puts a row behind the others of a table. A table without arguments has none: the row's value is its default.
+fn put_last(table: &mut Table, row: Row) -> Result<(), AllocError>
+    ensures { OnOk result (table.new ≡ put_in table.old.knots table.old row) }
+{
+    if table.knots.is_empty() {
+        table.default = row.value;
+        return Ok(());
+    }
+    table.rows.push(row)
+}
+
+/// Puts a row into the table of a number.
 fn put_row(tables: &mut Vec<Table>, at: usize, row: Row) -> Result<(), AllocError>
     requires { at < length tables.old.items }
     ensures { OnOk result (tables.new.items ≡ with_row tables.old.items at row) }
 {
-    tables[at].rows.push(row)
+    put_last(&mut tables[at], row)
 }
 
 /// Puts a row for each atom, with its truth, into the table of its predicate.

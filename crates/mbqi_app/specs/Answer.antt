@@ -11,6 +11,7 @@ use Rattle.mbqi_edge.specs.Told.{with_more}
 use Rattle.mbqi_terms.specs.declared.script.Script.{Script}
 use Rattle.sexpr_text.specs.Depth.{IsShallow}
 use Rattle.function_model.specs.declared.model.FunctionModel.{FunctionModel}
+use Rattle.element_models.specs.Elements.{NoRowsWithoutArguments}
 use Rattle.function_model.specs.Fits.{Fits}
 use Rattle.function_model.specs.Holds.{Holds}
 use Rattle.mbqi_app.specs.Command.{Command, Solve, Print, asked_for, files_of}
@@ -39,11 +40,12 @@ pub record IsReached (script : Script) (outcome : Outcome) (rise : ℕ) : Type 0
   pub decided : rise ≡ decisions outcome
   pub few : rise ≤ count script + 1
 
--- The text is that of a model that fits the script of the bytes, and in which each assertion holds.
+-- The text is that of a model that fits the script of the bytes, and in which each assertion holds. A table without arguments has no
+-- rows: its default is its value.
 abbrev pub IsSatText : List ℕ → ℕ → List ℕ → Type 0
 IsSatText bytes rise text =
     (script : Script) × (model : FunctionModel) × (journal : List Round) × Means bytes script × Fits script model × Holds model script
-    × (text ≡ model_text script model) × IsReached script (outcome.Sat model journal) rise
+    × NoRowsWithoutArguments model × (text ≡ model_text script model) × IsReached script (outcome.Sat model journal) rise
 
 -- The text is that of refuted instances of the assertions of the script of the bytes.
 abbrev pub IsUnsatText : List ℕ → ℕ → List ℕ → Type 0

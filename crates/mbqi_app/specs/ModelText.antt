@@ -1,5 +1,4 @@
-use Rattle.std.specs.Prelude.{ℕ, ℤ, pos, negsuc, suc, true, false, List, [], ◌∷◌, ◌++◌, map, codes, decimal}
-use Rattle.std.specs.List.{flat_map}
+use Rattle.std.specs.Prelude.{ℕ, List, [], ◌∷◌, ◌++◌, map, codes, decimal}
 use Rattle.mbqi_values.specs.declared.value.Value.{Value}
 use Rattle.mbqi_values.specs.declared.value.Value.TheVariants.{Num, Elem, Truth}
 use Rattle.mbqi_terms.specs.declared.script.Function.{Function}
@@ -8,31 +7,15 @@ use Rattle.function_model.specs.declared.model.FunctionModel.{FunctionModel}
 use Rattle.function_model.specs.declared.model.Row.{Row}
 use Rattle.function_model.specs.declared.model.Table.{Table}
 use Rattle.smtlib_printer.specs.Names.{name_text}
+use Rattle.smtlib_printer.specs.Text.{list_text, number_text, truth_text}
 
 -- The text of a shown model (this project's own).
-
--- A number as SMT-LIB 2.6 writes it: -n is `(- n)`.
-abbrev pub number_text : ℤ → List ℕ
-number_text (pos n) = decimal n
-number_text (negsuc n) = codes "(- " ++ decimal (suc n) ++ codes ")"
 
 -- A value: a number, `@k` for element k, or a truth.
 abbrev pub value_text : Value → List ℕ
 value_text (Num n) = number_text n
 value_text (Elem e) = codes "@" ++ decimal e
-value_text (Truth true) = codes "true"
-value_text (Truth false) = codes "false"
-
--- Parts in brackets, separated by one blank.
-abbrev pub spaced_rest : List (List ℕ) → List ℕ
-spaced_rest parts = flat_map (λ part. codes " " ++ part) parts
-
-abbrev pub spaced : List (List ℕ) → List ℕ
-spaced [] = []
-spaced (part ∷ parts) = part ++ spaced_rest parts
-
-abbrev pub list_text : List (List ℕ) → List ℕ
-list_text parts = codes "(" ++ spaced parts ++ codes ")"
+value_text (Truth t) = truth_text t
 
 abbrev pub values_text : List Value → List ℕ
 values_text values = list_text (map value_text values)

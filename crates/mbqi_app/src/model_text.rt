@@ -1,14 +1,14 @@
 //! The text of a shown model.
 
-ghost use Rattle.std.specs.Prelude.{◌≡◌, ◌++◌, OnOk};
-ghost use Rattle.mbqi_app.specs.ModelText.{value_text, values_text, number_text, spaced_rest, list_text, row_text, table_text, tables_text, sort_text, sorts_text, model_text};
-ghost use Rattle.std.specs.Prelude.{map};
+ghost use Rattle.std.specs.Prelude.{◌≡◌, ◌++◌, map, OnOk};
+ghost use Rattle.mbqi_app.specs.ModelText.{value_text, values_text, row_text, table_text, tables_text, sort_text, sorts_text, model_text};
+ghost use Rattle.smtlib_printer.specs.Text.{list_text, spaced_rest};
 
 use function_model::{FunctionModel, Row, Table};
 use itoa::Buffer;
 use mbqi_terms::{Function, Script, Values};
 use mbqi_values::{Text, Value};
-use smtlib_printer::write_name;
+use smtlib_printer::{write_name, write_number, write_truth};
 use std::alloc::AllocError;
 
 /// Appends the lines of a shown model for its script.
@@ -160,20 +160,6 @@ fn write_value(value: Value, into: &mut Vec<u8>) -> Result<(), AllocError>
             into.extend_from_slice(b"@")?;
             into.extend_from_slice(Buffer::new().format(element).as_bytes())
         }
-        Value::Truth(true) => into.extend_from_slice(b"true"),
-        Value::Truth(false) => into.extend_from_slice(b"false"),
+        Value::Truth(truth) => write_truth(truth, into),
     }
-}
-
-fn write_number(number: i128, into: &mut Vec<u8>) -> Result<(), AllocError>
-    ensures { OnOk result (into.new.items ≡ into.old.items ++ number_text number) }
-{
-    let mut buffer = Buffer::new();
-    let digits = buffer.format(number.unsigned_abs());
-    if number >= 0 {
-        return into.extend_from_slice(digits.as_bytes());
-    }
-    into.extend_from_slice(b"(- ")?;
-    into.extend_from_slice(digits.as_bytes())?;
-    into.extend_from_slice(b")")
 }

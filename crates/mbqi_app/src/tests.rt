@@ -165,7 +165,7 @@ fn scripts_have_models(rt: HostRuntime) -> Result<(), Fail> {
 }
 
 /// The scripts with assertions.
-const DECIDED: [&Case; 24] = [
+const DECIDED: [&Case; 25] = [
     &scripts::CONTRADICTING_UNITS,
     &scripts::BROKEN_CHAIN,
     &scripts::CHAIN,
@@ -190,6 +190,7 @@ const DECIDED: [&Case; 24] = [
     &examples::REACHABLE,
     &examples::ACCESS_RULE,
     &examples::OVERTAKING,
+    &examples::BETA_TEST,
 ];
 
 #[test]

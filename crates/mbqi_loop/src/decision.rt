@@ -7,6 +7,7 @@ ghost use Rattle.function_model.specs.Fits.{Fits};
 ghost use Rattle.function_model.specs.Holds.{Holds};
 ghost use Rattle.function_model.specs.Shown.{shown_of};
 ghost use Rattle.function_model.specs.TruthOf.{Meanings, truth_of};
+ghost use Rattle.element_models.specs.Elements.{NoRowsWithoutArguments};
 ghost use Rattle.ground_form.specs.Atoms.{IsPool, formulas_in};
 ghost use Rattle.ground_form.specs.Profile.{IsElementary};
 ghost use Rattle.mbqi_loop.specs.Journal.{IsRound, first_lines};
@@ -36,6 +37,7 @@ pub fn decide(
     requires first { (more : List InstanceLine) × (listed.now.lines ≡ first_lines script.now ++ more) }
     ensures round { IfOk result (λ found. IfSome found (IsRound script.now listed.now.lines)) }
     ensures fits { IfOk result (λ found. IfSome found (λ round. Fits script.now (shown_of round.model))) }
+    ensures bare { IfOk result (λ found. IfSome found (λ round. NoRowsWithoutArguments (shown_of round.model))) }
     ensures holds { IfOk result (λ found. IfSome found (λ round. round.added ≡ [] → Holds (shown_of round.model) script.now)) }
     ensures refuted { IfOk result (λ found. IfNone found ((m : Meanings) → list_all (truth_of m) (formulas_in listed.now.lines) ≡ false)) }
 {

@@ -1,6 +1,7 @@
 //! From a script to its outcome.
 
 ghost use Rattle.std.specs.Prelude.{◌≡◌, ◌+◌, ◌≤◌, ◌++◌, ◌∷◌, [], All, IfOk};
+ghost use Rattle.element_models.specs.Elements.{NoRowsWithoutArguments};
 ghost use Rattle.function_model.specs.Fits.{Fits};
 ghost use Rattle.function_model.specs.Holds.{Holds};
 ghost use Rattle.ground_form.specs.Atoms.{IsPool};
@@ -34,6 +35,7 @@ pub fn solve_rules<L: Ledger>(
 ) -> Result<Outcome, AllocError>
     requires { IsElementary script.now }
     ensures fits { IfOk result (λ outcome. IfSat outcome (Fits script.now)) }
+    ensures bare { IfOk result (λ outcome. IfSat outcome NoRowsWithoutArguments) }
     ensures holds { IfOk result (λ outcome. IfSat outcome (λ model. Holds model script.now)) }
     ensures refuted { IfOk result (λ outcome. IfUnsat outcome (IsRefuted script.now)) }
     ensures journal { IfOk result (IsJournal script.now) }
@@ -62,6 +64,7 @@ fn rounds<L: Ledger>(
     requires first { listed.lines ≡ first_lines script.now }
     requires instances { AreInstances script.now listed.lines }
     ensures fits { IfOk result (λ outcome. IfSat outcome (Fits script.now)) }
+    ensures bare { IfOk result (λ outcome. IfSat outcome NoRowsWithoutArguments) }
     ensures holds { IfOk result (λ outcome. IfSat outcome (λ model. Holds model script.now)) }
     ensures refuted { IfOk result (λ outcome. IfUnsat outcome (IsRefuted script.now)) }
     ensures journal { IfOk result (IsJournal script.now) }

@@ -12,8 +12,6 @@ mod lists;
 mod measures;
 mod symbols;
 mod terms;
-#[cfg(test)]
-mod tests;
 
 pub use arrays::MeasuredArray;
 pub use formulas::MeasuredFormula;

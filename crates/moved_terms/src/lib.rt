@@ -9,8 +9,6 @@ mod copies;
 mod formulas;
 mod places;
 mod terms;
-#[cfg(test)]
-mod tests;
 
 pub use copies::measured_array;
 pub use formulas::moved_formula;

@@ -6,10 +6,10 @@ ghost use Rattle.script_text.specs.Text.{assertion_line, declared_text, function
 ghost use Rattle.smtlib_printer.specs.Names.{marks_of};
 ghost use Rattle.smtlib_printer.specs.Text.{formula_text_with};
 
-use crate::sorts::{write_sort, write_sort_list};
+use crate::sorts::write_sort_list;
 use mbqi_terms::{Assertion, Function, Script};
 use mbqi_values::Text;
-use smtlib_printer::{question_marks, write_formula_with, write_name};
+use smtlib_printer::{question_marks, write_formula_with, write_name, write_sort};
 use std::alloc::AllocError;
 
 /// Appends the declarations of sorts.

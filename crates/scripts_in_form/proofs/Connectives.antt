@@ -116,13 +116,13 @@ implication_placed script scope next args f are is =
     first_implied script scope next from.read f from.placed from.made
 
 -- a formula that binds no variable
-pub record IsStill (script : Script) (scope : List Binder) (next : ℕ) (f : Formula) : Type 0 where
+pub record IsQuantifierFree (script : Script) (scope : List Binder) (next : ℕ) (f : Formula) : Type 0 where
   pub placed : IsPlaced script scope next f
   pub closed : variables_in f ≡ 0
 
-abbrev pub AreStill : Script → List Binder → ℕ → List Formula → Type 0
-AreStill script scope next [] = Unit {0}
-AreStill script scope next (f ∷ fs) = IsStill script scope next f × AreStill script scope next fs
+abbrev pub AreQuantifierFree : Script → List Binder → ℕ → List Formula → Type 0
+AreQuantifierFree script scope next [] = Unit {0}
+AreQuantifierFree script scope next (f ∷ fs) = IsQuantifierFree script scope next f × AreQuantifierFree script scope next fs
 
 none_below : (n : ℕ) → ltb 0 n ≡ false → n ≡ 0
 none_below n is = grind (arith, nat_tests)
@@ -130,36 +130,36 @@ none_below n is = grind (arith, nat_tests)
 pub closed_by_test : (f : Formula) → is_quantified f ≡ false → variables_in f ≡ 0
 closed_by_test f is = none_below (variables_in f) is
 
-pub still_placed : (script : Script) (scope : List Binder) (next : ℕ) (fs : List Formula) → AreStill script scope next fs → AreAllPlaced script scope next fs
-still_placed script scope next [] still = AreAllPlaced.no_formulas scope next
-still_placed script scope next (f ∷ fs) still =
-    let here : next ≡ next + variables_in f = let closed = still.0.closed in omega arith in
-    AreAllPlaced.more_formulas scope next f fs still.0.placed (subst (λ (at : ℕ). AreAllPlaced script scope at fs) here (still_placed script scope next fs still.1))
+pub quantifier_free_placed : (script : Script) (scope : List Binder) (next : ℕ) (fs : List Formula) → AreQuantifierFree script scope next fs → AreAllPlaced script scope next fs
+quantifier_free_placed script scope next [] free = AreAllPlaced.no_formulas scope next
+quantifier_free_placed script scope next (f ∷ fs) free =
+    let here : next ≡ next + variables_in f = let closed = free.0.closed in omega arith in
+    AreAllPlaced.more_formulas scope next f fs free.0.placed (subst (λ (at : ℕ). AreAllPlaced script scope at fs) here (quantifier_free_placed script scope next fs free.1))
 
-pub placed_still : (script : Script) (scope : List Binder) (next : ℕ) (fs : List Formula) → AreAllPlaced script scope next fs → list_any is_quantified fs ≡ false → AreStill script scope next fs
-placed_still script scope next [] placed none = tt
-placed_still script scope next (f ∷ fs) (AreAllPlaced.more_formulas s n h hs one rest) none =
+pub placed_quantifier_free : (script : Script) (scope : List Binder) (next : ℕ) (fs : List Formula) → AreAllPlaced script scope next fs → list_any is_quantified fs ≡ false → AreQuantifierFree script scope next fs
+placed_quantifier_free script scope next [] placed none = tt
+placed_quantifier_free script scope next (f ∷ fs) (AreAllPlaced.more_formulas s n h hs one rest) none =
     let parts = neither (is_quantified f) (list_any is_quantified fs) none in
     let closed = closed_by_test f parts.0 in
     let here : next + variables_in f ≡ next = omega arith in
-    (record { placed = one; closed = closed }, placed_still script scope next fs (subst (λ (at : ℕ). AreAllPlaced script scope at fs) here rest) parts.1)
+    (record { placed = one; closed = closed }, placed_quantifier_free script scope next fs (subst (λ (at : ℕ). AreAllPlaced script scope at fs) here rest) parts.1)
 
 -- `xor`
-unlike_placed : (script : Script) (scope : List Binder) (next : ℕ) (f : Formula) (gs : List Formula) → IsStill script scope next f → AreStill script scope next gs → IsPlaced script scope next (unlike f gs)
-unlike_placed script scope next f [] one still = one.placed
-unlike_placed script scope next f (g ∷ gs) one still =
-    let both = IsPlaced.equivalence scope next f g one.placed still.0.placed one.closed still.0.closed in
+unlike_placed : (script : Script) (scope : List Binder) (next : ℕ) (f : Formula) (gs : List Formula) → IsQuantifierFree script scope next f → AreQuantifierFree script scope next gs → IsPlaced script scope next (unlike f gs)
+unlike_placed script scope next f [] one free = one.placed
+unlike_placed script scope next f (g ∷ gs) one free =
+    let both = IsPlaced.equivalence scope next f g one.placed free.0.placed one.closed free.0.closed in
     let closed : variables_in (formula.Not (formula.Iff f g)) ≡ 0 =
-    let outer = formula_measure.variables-Not (formula.Iff f g) in let inner = formula_measure.variables-Iff f g in let first = one.closed in let second = still.0.closed in omega arith in
-    unlike_placed script scope next (formula.Not (formula.Iff f g)) gs (record { placed = IsPlaced.negation scope next (formula.Iff f g) both; closed = closed }) still.1
+    let outer = formula_measure.variables-Not (formula.Iff f g) in let inner = formula_measure.variables-Iff f g in let first = one.closed in let second = free.0.closed in omega arith in
+    unlike_placed script scope next (formula.Not (formula.Iff f g)) gs (record { placed = IsPlaced.negation scope next (formula.Iff f g) both; closed = closed }) free.1
 
 first_unlike : (script : Script) (scope : List Binder) (next : ℕ) (fs : List Formula) (f : Formula) → AreAllPlaced script scope next fs → exclusion_of fs ≡ Ok f → IsPlaced script scope next f
 first_unlike script scope next [] f placed is = cc
 first_unlike script scope next (g ∷ gs) f placed is =
     let none = not_refused (list_any is_quantified (g ∷ gs)) (Ok (unlike g gs)) QuantifierPlace f is in
-    let still = placed_still script scope next (g ∷ gs) placed none.0 in
+    let free = placed_quantifier_free script scope next (g ∷ gs) placed none.0 in
     let same : unlike g gs ≡ f = let made = none.1 in cc in
-    subst (IsPlaced script scope next) same (unlike_placed script scope next g gs still.0 still.1)
+    subst (IsPlaced script scope next) same (unlike_placed script scope next g gs free.0 free.1)
 
 pub exclusion_placed : (script : Script) (scope : List Binder) (next : ℕ) (args : List Meaning) (f : Formula) → AreMeanings script scope next args → exclusion args ≡ Ok f → IsPlaced script scope next f
 exclusion_placed script scope next args f are is =

@@ -1,5 +1,5 @@
 -- What a script's names stand for, macros among them: a formula that is read is in form.
-use Rattle.std.proofs.Common.{◌≡◌, ◌≤◌, ℕ, Bool, true, false, cond, List, [], ◌∷◌, length, Option, Some, Ok, subst, arith}
+use Rattle.std.proofs.Common.{◌≡◌, ◌≤◌, ℕ, List, [], ◌∷◌, length, Option, Some, Ok, subst, arith}
 use Rattle.std.specs.List.{fold}
 use Rattle.mbqi_terms.specs.declared.formula.Formula.{Formula}
 use Rattle.mbqi_terms.specs.declared.script.Function.{Function}
@@ -19,7 +19,7 @@ use Rattle.smtlib_terms.specs.Words.{is_text}
 use Rattle.scripts_in_form.proofs.Parts.{one_is_read}
 use Rattle.scripts_in_form.proofs.Placed.{AreValues, IsBelow, IsFunction, IsPlaced, IsRead, IsReader, IsScope, IsSignature}
 use Rattle.scripts_in_form.proofs.Scopes.{extends_itself, no_bindings, scope_more}
-use Rattle.scripts_in_form.proofs.Steps.{stepped}
+use Rattle.scripts_in_form.proofs.Steps.{first_or_rest, stepped}
 use Rattle.scripts_in_form.proofs.Trees.{tree_is_good}
 
 -- the arguments of a macro, as values
@@ -37,15 +37,11 @@ macro_is_read script names m signature scope next args result below values is =
     (record { signature = signature; below = below; scoped = arguments_scoped script scope next m.parameters args below values }) is
 
 -- one more macro
-first_or_rest : (script : Script) (own : Bool) (first m : Reader) (rest : Option Reader) → IsReader script first → (rest ≡ Some m → IsReader script m) → cond own (Some first) rest ≡ Some m → IsReader script m
-first_or_rest script true first m rest is later found = let same : first ≡ m = cc in subst (IsReader script) same is
-first_or_rest script false first m rest is later found = later found
-
 one_more : (script : Script) (names : Signature) (m : Macro) → IsSignature script names → IsSignature script (with_macro names m)
 one_more script names m signature = record {
   sorts = signature.sorts;
   functions = signature.functions;
-  macros = λ name r found. first_or_rest script (is_text name m.name) (reader_of names m) r (macro_named name names.macros) (macro_is_read script names m signature) (signature.macros name r) found;
+  macros = λ name r found. first_or_rest (IsReader script) (is_text name m.name) (reader_of names m) r (macro_named name names.macros) (macro_is_read script names m signature) (signature.macros name r) found;
 }
 
 all_macros : (script : Script) (names : Signature) (ms : List Macro) → IsSignature script names → IsSignature script (fold with_macro names ms)

@@ -13,6 +13,7 @@ use Rattle.mbqi_terms.specs.declared.sort.Sort.TheVariants as sort
 use Rattle.mbqi_terms.specs.declared.term.ArrayTerm.{ArrayTerm}
 use Rattle.mbqi_terms.specs.declared.term.ArrayTerm.TheVariants as array
 use Rattle.mbqi_terms.specs.declared.term.MapOp.TheVariants as op
+use Rattle.sexpr_text.proofs.Legality.{both}
 use Rattle.smtlib_terms.specs.declared.meaning.Bound.{Bound}
 use Rattle.smtlib_terms.specs.declared.meaning.Meaning.{Meaning}
 use Rattle.smtlib_terms.specs.declared.meaning.Meaning.TheVariants as meaning
@@ -26,7 +27,7 @@ use Rattle.printed_trees.specs.InForm.{AreArrays, IsArray, IsPlainSort, IsPointw
 use Rattle.printed_trees.specs.Scripts.{IsResultSort}
 use Rattle.scripts_in_form.proofs.SameSorts.{same_plain, same_sort}
 use Rattle.scripts_in_form.proofs.Placed.{AreMeanings, IsArrayOf, IsFunction, IsMeaning, IsSignature}
-use Rattle.scripts_in_form.proofs.Steps.{both_true, passed, stepped}
+use Rattle.scripts_in_form.proofs.Steps.{passed, stepped}
 
 -- what a map's function takes and gives, if its places are at least one and of plain sorts
 record IsGiven (script : Script) (p : Pointwise) (es : List Plain) : Type 0 where
@@ -128,7 +129,7 @@ over_is : (script : Script) (scope : List Binder) (next : ℕ) (i : Plain) (s : 
 over_is script scope next i s (meaning.Formula f) is e = cc
 over_is script scope next i s (meaning.Term r t) is e = cc
 over_is script scope next i s (meaning.Array j d a) is e =
-    let tests = both_true (is_plain i j) (is_sort s (plain_sort d)) e in
+    let tests = both (is_plain i j) (is_sort s (plain_sort d)) e in
     let same : j ≡ i = sym (same_plain i j tests.0) in
     record { element = d; term = a; sort = same_sort s (plain_sort d) tests.1; meaning = ap (λ (k : Plain). meaning.Array k d a) same; array = subst (λ (k : Plain). IsArray script scope a k d) same is.array }
 
@@ -150,7 +151,7 @@ over_are script scope next i [] [] are e = record { elements = []; same = refl; 
 over_are script scope next i [] (m ∷ ms) are e = cc
 over_are script scope next i (s ∷ ss) [] are e = cc
 over_are script scope next i (s ∷ ss) (m ∷ ms) are e =
-    let tests = both_true (is_over i s m) (are_over i ss ms) e in
+    let tests = both (is_over i s m) (are_over i ss ms) e in
     more_over script scope i s ss m ms (over_is script scope next i s m are.0 tests.0) (over_are script scope (next + variables_of m) i ss ms are.1 tests.1)
 
 -- the map of arrays

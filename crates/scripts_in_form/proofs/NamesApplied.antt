@@ -14,6 +14,7 @@ use Rattle.mbqi_terms.specs.declared.sort.Sort.TheVariants as sort
 use Rattle.mbqi_terms.specs.declared.term.Symbol.TheVariants as symbol
 use Rattle.mbqi_terms.specs.declared.term.Term.{Term}
 use Rattle.mbqi_terms.specs.declared.term.Term.TheVariants as term
+use Rattle.sexpr_text.proofs.Legality.{both}
 use Rattle.smtlib_terms.specs.declared.meaning.Bound.{Bound}
 use Rattle.smtlib_terms.specs.declared.meaning.Meaning.{Meaning}
 use Rattle.smtlib_terms.specs.declared.meaning.Meaning.TheVariants as meaning
@@ -29,7 +30,7 @@ use Rattle.printed_trees.specs.InForm.{HasSort, HaveSorts, IsArray, IsDeclared, 
 use Rattle.printed_trees.specs.Scripts.{IsResultSort}
 use Rattle.scripts_in_form.proofs.Placed.{AreValues, IsBelow, IsBound, IsFunction, IsMeaning, IsPlaced, IsRead, IsReader, IsScope, IsSignature}
 use Rattle.scripts_in_form.proofs.SameSorts.{same_sort}
-use Rattle.scripts_in_form.proofs.Steps.{both_true, passed}
+use Rattle.scripts_in_form.proofs.Steps.{passed}
 
 no_truth : (script : Script) (s : Sort) → IsVariableSort script s → is_sort s sort.Truth ≡ false
 no_truth script sort.Truth is = absurd is
@@ -78,7 +79,7 @@ arguments_are script scope next [] [] all values e = record { plains = []; same 
 arguments_are script scope next [] (m ∷ ms) all values e = cc
 arguments_are script scope next (s ∷ ss) [] all values e = cc
 arguments_are script scope next (s ∷ ss) (m ∷ ms) all values e =
-    let tests = both_true (is_sort s (sort_of m)) (have_sorts ss ms) e in
+    let tests = both (is_sort s (sort_of m)) (have_sorts ss ms) e in
     more_arguments script scope s ss m ms (argument_is script scope next s m all.0 values.0.meaning tests.0) (arguments_are script scope next ss ms all.1 values.1 tests.1)
 
 -- the application of a function, by the sort of its result

@@ -2,13 +2,12 @@
 use Rattle.std.proofs.Common.{◌≡◌, ◌≢◌, ℕ, zero, suc, Bool, true, false, List, [], ◌∷◌, ◌++◌, length, All, Some, Option, slice_get, refl, sym, ap, ◌∙◌, subst, ◌⊎◌, inl, inr}
 use Rattle.std.specs.List.{AllByRecursion, list_any}
 use Rattle.std.proofs.lemmas.List.Elements.{All-from_recursion, recursion_from_All}
-use Rattle.std.proofs.lemmas.Option.{get_or_from_slice_get, slice_get_within}
-use Rattle.std.proofs.lemmas.Slice.Eq.{bytes_eq-Decides}
 use Rattle.mbqi_terms.specs.Distinct.{AreDistinct}
 use Rattle.mbqi_terms.specs.declared.script.Assertion.{Assertion}
 use Rattle.smtlib_terms.specs.Words.{is_one_of, is_text}
 use Rattle.smtlib_decls.specs.Labels.{is_labelled, is_taken}
 use Rattle.printed_trees.specs.Scripts.{DifferInLabels}
+use Rattle.printed_trees.proofs.Lists.{own_text}
 use Rattle.scripts_in_form.proofs.Steps.{neither}
 
 -- What all items have.
@@ -18,9 +17,6 @@ each_more P (y ∷ xs) x all here = (all.0, each_more P xs x all.1 here)
 
 pub all_more : {X : Type 0} (P : X → Type 0) (xs : List X) (x : X) → All P xs → P x → All P (xs ++ x ∷ [])
 all_more P xs x all here = All-from_recursion P (xs ++ x ∷ []) (each_more P xs x (recursion_from_All P xs all) here)
-
-pub all_get : {X : Type 0} (P : X → Type 0) (xs : List X) (i : ℕ) (x : X) → All P xs → slice_get xs i ≡ Some x → P x
-all_get P xs i x all e = subst P (get_or_from_slice_get xs i x x e) (all i x (slice_get_within xs i x e))
 
 -- An item by its place.
 pub get_before : {X : Type 0} (xs : List X) (x : X) (i : ℕ) (y : X) → slice_get xs i ≡ Some y → slice_get (xs ++ x ∷ []) i ≡ Some y
@@ -61,9 +57,6 @@ none_passes : {X : Type 0} (p : X → Bool) (xs : List X) (i : ℕ) (x : X) → 
 none_passes p [] i x none e = cc
 none_passes p (y ∷ ys) zero x none e = let same : y ≡ x = cc in subst (λ z. p z ≡ false) same (neither (p y) (list_any p ys) none).0
 none_passes p (y ∷ ys) (suc i) x none e = none_passes p ys i x (neither (p y) (list_any p ys) none).1 e
-
-own_text : (a : List ℕ) → is_text a a ≡ true
-own_text a = (bytes_eq-Decides a a).1 refl
 
 -- Names.
 name_absent : (names : List (List ℕ)) (name : List ℕ) → is_one_of names name ≡ false → (k : ℕ) → slice_get names k ≢ Some name

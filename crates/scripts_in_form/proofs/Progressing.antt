@@ -15,6 +15,7 @@ use Rattle.mbqi_terms.specs.declared.sort.Sort.{Sort}
 use Rattle.mbqi_terms.specs.declared.sort.Sort.TheVariants as sort
 use Rattle.sexpr_text.specs.declared.tree.Form.{Form}
 use Rattle.sexpr_text.specs.declared.tree.Sexpr.{Sexpr}
+use Rattle.sexpr_text.proofs.Legality.{both}
 use Rattle.smtlib_terms.specs.Declaring.{Declarations, formula_read, is_first_order, is_function}
 use Rattle.smtlib_terms.specs.Meaning.{depth_of_formula, variables_in}
 use Rattle.smtlib_terms.specs.Names.{is_array}
@@ -24,12 +25,13 @@ use Rattle.smtlib_decls.specs.declared.progress.Progress.{Progress}
 use Rattle.smtlib_decls.specs.Commands.{command_meant, with_assertion}
 use Rattle.smtlib_decls.specs.Scripts.{behind_form, is_exit, nothing, script_from, script_meant, script_of}
 use Rattle.printed_trees.specs.InForm.{IsFormula, IsVariableSort}
-use Rattle.printed_trees.specs.Names.{AreNamed, IsName}
+use Rattle.printed_trees.specs.Names.{AreNamed, IsName, declarations_of}
+use Rattle.printed_trees.proofs.Lists.{all_get}
 use Rattle.printed_trees.specs.Scripts.{DifferInLabels, IsInForm, IsRanked, IsResultSort}
 use Rattle.scripts_in_form.proofs.CommandSteps.{IsLegalText, IsNamedSort, IsNewFunction, IsStep, command_steps, with_question}
 use Rattle.scripts_in_form.proofs.LegalNames.{IsLegalForm}
-use Rattle.scripts_in_form.proofs.OneMore.{all_get, all_more, get_before, labels_differ, names_differ}
-use Rattle.scripts_in_form.proofs.Steps.{both_true, neither}
+use Rattle.scripts_in_form.proofs.OneMore.{all_more, get_before, labels_differ, names_differ}
+use Rattle.scripts_in_form.proofs.Steps.{neither}
 use Rattle.scripts_in_form.proofs.Placed.{IsFunction, IsPlaced}
 use Rattle.scripts_in_form.proofs.SortsRead.{sort_read_is}
 
@@ -60,9 +62,6 @@ step_grows p next (IsStep.definition m) = record { sorts = omega arith; function
 step_grows p next (IsStep.assertion label f new) = own_before p.names
 step_grows p next (IsStep.question) = own_before p.names
 
-abbrev declared_in : Script → Declarations
-declared_in script = record { sorts = script.sorts; functions = script.functions; macros = [] }
-
 -- A form ends a script, or is read.
 form_back : (exits : Bool) (at : ℕ) (meant : Result Progress FaultKind) (rest : Progress → Result Script Refusal) (whole script : Script) →
     (if exits then Ok whole else behind_form at meant rest) ≡ Ok script → (whole ≡ script) ⊎ ((next : Progress) × (meant ≡ Ok next) × (rest next ≡ Ok script))
@@ -74,13 +73,13 @@ same_script : (a b : Script) → ◌≡◌ {A = Result Script Refusal} (Ok a) (O
 same_script a b e = cc
 
 -- What is declared stays.
-script_grows : (forms : List Form) (p : Progress) (script : Script) → AllByRecursion IsLegalForm forms → script_from p forms ≡ Ok script → IsBefore p.names (declared_in script)
+script_grows : (forms : List Form) (p : Progress) (script : Script) → AllByRecursion IsLegalForm forms → script_from p forms ≡ Ok script → IsBefore p.names (declarations_of script)
 script_grows [] p script legal e =
-    subst (λ (s : Script). IsBefore p.names (declared_in s)) (same_script (script_of p) script e) (record { sorts = omega arith; functions = λ i f e. e })
+    subst (λ (s : Script). IsBefore p.names (declarations_of s)) (same_script (script_of p) script e) (record { sorts = omega arith; functions = λ i f e. e })
 script_grows (form ∷ forms) p script legal e =
     elim (form_back (is_exit form.tree) form.from (command_meant p form.tree) (λ next. script_from next forms) (script_of p) script e) [
-      | inl same ↦ subst (λ (s : Script). IsBefore p.names (declared_in s)) same (record { sorts = omega arith; functions = λ i f e. e })
-      | inr more ↦ before_both p.names more.0.names (declared_in script)
+      | inl same ↦ subst (λ (s : Script). IsBefore p.names (declarations_of s)) same (record { sorts = omega arith; functions = λ i f e. e })
+      | inr more ↦ before_both p.names more.0.names (declarations_of script)
           (step_grows p more.0 (command_steps p form.tree more.0 legal.0 more.1)) (script_grows forms more.0 script legal.1 more.2)
     ]
 
@@ -112,7 +111,7 @@ named_sort_is script d s le is = sort_read_is script d.sorts is.tree s le is.rea
 variable_sorts : (script : Script) (d : Declarations) (ss : List Sort) → length d.sorts ≤ length script.sorts → AllByRecursion (IsNamedSort d) ss → list_all is_first_order ss ≡ true → AllByRecursion (IsVariableSort script) ss
 variable_sorts script d [] le are first = tt
 variable_sorts script d (s ∷ ss) le are first =
-    let parts = both_true (is_first_order s) (list_all is_first_order ss) first in
+    let parts = both (is_first_order s) (list_all is_first_order ss) first in
     (variable_sort script s (named_sort_is script d s le are.0) parts.0, variable_sorts script d ss le are.1 parts.1)
 
 no_arguments : (args : List Sort) → eqb (length args) 0 ≡ true → args ≡ []
@@ -126,7 +125,7 @@ or_not false false e there = cc
 
 function_ranked : (script : Script) (d : Declarations) (f : Function) → length d.sorts ≤ length script.sorts → IsNewFunction d f → IsRanked script f
 function_ranked script d f le new =
-    let parts = both_true (list_all is_first_order f.args) ((eqb (length f.args) 0) || not (is_array f.result)) new.supported in
+    let parts = both (list_all is_first_order f.args) ((eqb (length f.args) 0) || not (is_array f.result)) new.supported in
     record {
       args = All-from_recursion (IsVariableSort script) f.args (variable_sorts script d f.args le new.args parts.0);
       result = named_sort_is script d f.result le new.result;
@@ -142,8 +141,8 @@ name_is_new : (d : Declarations) (name : List ℕ) → is_function d name ≡ fa
 name_is_new d name new = sym (any_function d.functions name) ∙ (neither _ _ new).0
 
 -- The names of a script that has the same ones.
-still_named : (a b : Script) → a.sorts ≡ b.sorts → a.functions ≡ b.functions → AreNamed a → AreNamed b
-still_named a b sorts functions named = record {
+quantifier_free_named : (a b : Script) → a.sorts ≡ b.sorts → a.functions ≡ b.functions → AreNamed a → AreNamed b
+quantifier_free_named a b sorts functions named = record {
   sorts = subst (λ (xs : List (List ℕ)). All IsName xs) sorts named.sorts;
   functions = subst (λ (fs : List Function). All IsName (map (λ (f : Function). f.name) fs)) functions named.functions;
   sorts_differ = subst (λ (xs : List (List ℕ)). AreDistinct xs) sorts named.sorts_differ;
@@ -151,7 +150,7 @@ still_named a b sorts functions named = record {
 }
 
 -- Each step keeps what holds.
-step_keeps : (script : Script) (p next : Progress) → IsStep p next → IsBefore next.names (declared_in script) → IsKept script (script_of p) → IsKept script (script_of next)
+step_keeps : (script : Script) (p next : Progress) → IsStep p next → IsBefore next.names (declarations_of script) → IsKept script (script_of p) → IsKept script (script_of next)
 step_keeps script p next (IsStep.passed_over) before kept = kept
 step_keeps script p next (IsStep.sort name new) before kept = record {
   named = record {
@@ -185,13 +184,13 @@ step_keeps script p next (IsStep.assertion label f new) before kept =
       functions = λ i g e. record { there = before.functions i g e; ranked = all_get (IsRanked script) p.names.functions i g kept.ranked e };
     } in
     record {
-      named = still_named (script_of p) (script_of (with_assertion p label f)) refl refl kept.named;
+      named = quantifier_free_named (script_of p) (script_of (with_assertion p label f)) refl refl kept.named;
       ranked = kept.ranked;
       given = all_more (IsGiven script) p.assertions (record { label = label; formula = f }) kept.given
           (record { declarations = p.names; tree = new.tree; part = part; read = new.read; label = new.legal });
       labels = labels_differ p.assertions (record { label = label; formula = f }) kept.labels new.new;
     }
-step_keeps script p next (IsStep.question) before kept = record { named = still_named (script_of p) (script_of (with_question p)) refl refl kept.named; ranked = kept.ranked; given = kept.given; labels = kept.labels }
+step_keeps script p next (IsStep.question) before kept = record { named = quantifier_free_named (script_of p) (script_of (with_question p)) refl refl kept.named; ranked = kept.ranked; given = kept.given; labels = kept.labels }
 
 -- So it holds of the script.
 forms_keep : (script : Script) (forms : List Form) (p : Progress) → AllByRecursion IsLegalForm forms → script_from p forms ≡ Ok script → IsKept script (script_of p) → IsKept script script

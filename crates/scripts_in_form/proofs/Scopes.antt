@@ -1,5 +1,5 @@
 -- Scopes that grow, by places and by bindings.
-use Rattle.std.proofs.Common.{◌≡◌, ◌≤◌, ℕ, Bool, true, false, cond, List, [], ◌∷◌, Option, Some, subst, arith}
+use Rattle.std.proofs.Common.{◌≡◌, ◌≤◌, ℕ, List, [], ◌∷◌, Some, arith}
 use Rattle.mbqi_terms.specs.declared.script.Script.{Script}
 use Rattle.mbqi_terms.specs.declared.sort.Binder.{Binder}
 use Rattle.smtlib_terms.specs.declared.meaning.Bound.{Bound}
@@ -8,6 +8,7 @@ use Rattle.smtlib_terms.specs.declared.names.Binding.{Binding}
 use Rattle.smtlib_terms.specs.Names.{bound_to}
 use Rattle.smtlib_terms.specs.Words.{is_text}
 use Rattle.scripts_in_form.proofs.Placed.{Extends, IsBelow, IsBound, IsScope}
+use Rattle.scripts_in_form.proofs.Steps.{first_or_rest}
 
 pub extends_itself : (scope : List Binder) → Extends scope scope
 extends_itself scope place s found = found
@@ -25,13 +26,9 @@ pub scope_later : (script : Script) (scope wider : List Binder) (next later : �
 scope_later script scope wider next later bindings extends more is name bound found = bound_later script scope wider next later bound extends more (is name bound found)
 
 -- a binding before others
-first_or_rest : (script : Script) (scope : List Binder) (next : ℕ) (own : Bool) (first bound : Bound) (rest : Option Bound) → IsBound script scope next first → (rest ≡ Some bound → IsBound script scope next bound) → cond own (Some first) rest ≡ Some bound → IsBound script scope next bound
-first_or_rest script scope next true first bound rest is later found = let same : first ≡ bound = cc in subst (IsBound script scope next) same is
-first_or_rest script scope next false first bound rest is later found = later found
-
 pub scope_more : (script : Script) (scope : List Binder) (next : ℕ) (b : Binding) (bindings : List Binding) → IsBound script scope next b.bound → IsScope script scope next bindings → IsScope script scope next (b ∷ bindings)
 scope_more script scope next b bindings is rest name bound found =
-    first_or_rest script scope next (is_text name b.name) b.bound bound (bound_to name bindings) is (rest name bound) found
+    first_or_rest (IsBound script scope next) (is_text name b.name) b.bound bound (bound_to name bindings) is (rest name bound) found
 
 pub no_bindings : (script : Script) (scope : List Binder) (next : ℕ) → IsScope script scope next []
 no_bindings script scope next name bound found = cc

@@ -23,6 +23,7 @@ use Rattle.scripts_in_form.proofs.Limits.{limited}
 use Rattle.scripts_in_form.proofs.Macros.{formula_is_read}
 use Rattle.scripts_in_form.proofs.Placed.{IsFunction, IsPlaced}
 use Rattle.scripts_in_form.proofs.Progressing.{IsPart, script_in_form}
+use Rattle.scripts_in_form.proofs.Steps.{first_or_rest}
 
 -- the function of a name stands at its number
 record IsFoundAt (at : ℕ) (fs : List Function) (number : ℕ) (g : Function) : Type 0 where
@@ -30,23 +31,15 @@ record IsFoundAt (at : ℕ) (fs : List Function) (number : ℕ) (g : Function) :
   pub place : number ≡ at + index
   pub there : slice_get fs index ≡ Some g
 
-same_pair : (a b : ℕ × Function) → ◌≡◌ {A = Option (ℕ × Function)} (Some a) (Some b) → a ≡ b
-same_pair a b is = cc
-
-first_or_rest : (at : ℕ) (f : Function) (fs : List Function) (own : Bool) (rest : Option (ℕ × Function)) (number : ℕ) (g : Function) → (rest ≡ Some (number, g) → IsFoundAt (at + 1) fs number g) → cond own (Some (at, f)) rest ≡ Some (number, g) → IsFoundAt at (f ∷ fs) number g
-first_or_rest at f fs true rest number g later found =
-    let same = same_pair (at, f) (number, g) found in
-    let place : at ≡ number = ap (λ (pair : ℕ × Function). pair.0) same in
-    let function : f ≡ g = ap (λ (pair : ℕ × Function). pair.1) same in
-    record { index = 0; place = omega arith; there = ap (λ (h : Function). Some h) function }
-first_or_rest at f fs false rest number g later found =
-    let more = later found in
-    let place = more.place in
-    record { index = suc more.index; place = omega arith; there = more.there }
+found_further : (at : ℕ) (f : Function) (fs : List Function) (number : ℕ) (g : Function) → IsFoundAt (at + 1) fs number g → IsFoundAt at (f ∷ fs) number g
+found_further at f fs number g more = let place = more.place in record { index = suc more.index; place = omega arith; there = more.there }
 
 found_at : (name : List ℕ) (at : ℕ) (fs : List Function) (number : ℕ) (g : Function) → function_named name at fs ≡ Some (number, g) → IsFoundAt at fs number g
 found_at name at [] number g found = cc
-found_at name at (f ∷ fs) number g found = first_or_rest at f fs (is_text name f.name) (function_named name (at + 1) fs) number g (found_at name (at + 1) fs number g) found
+found_at name at (f ∷ fs) number g found =
+    first_or_rest (λ (pair : ℕ × Function). IsFoundAt at (f ∷ fs) pair.0 pair.1) (is_text name f.name) (at, f) (number, g) (function_named name (at + 1) fs)
+    (record { index = 0; place = omega arith; there = refl })
+    (λ more. found_further at f fs number g (found_at name (at + 1) fs number g more)) found
 
 part_is_placed : (script : Script) (d : Declarations) (t : Sexpr) (f : Formula) → IsPart script d → formula_read d t ≡ Ok f → IsPlaced script [] 0 f × (depth_of_formula f ≤ 1000)
 part_is_placed script d t f part read =

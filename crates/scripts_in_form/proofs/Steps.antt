@@ -1,5 +1,5 @@
 -- What it says of the steps of a reading that it gave something.
-use Rattle.std.proofs.Common.{◌≡◌, Bool, true, false, cond, ◌&&◌, ◌||◌, Result, Ok, Err, refl}
+use Rattle.std.proofs.Common.{◌≡◌, Bool, true, false, cond, ◌||◌, Option, Some, Result, Ok, Err, refl, subst}
 use Rattle.mbqi_values.specs.declared.fault.FaultKind.{FaultKind}
 use Rattle.smtlib_terms.specs.declared.meaning.Meaning.{Meaning}
 use Rattle.smtlib_terms.specs.declared.meaning.Side.{Side}
@@ -26,14 +26,15 @@ pub not_refused : {A : Type 0} (test : Bool) (r : Result A FaultKind) (kind : Fa
 not_refused true r kind a is = cc
 not_refused false r kind a is = (refl, is)
 
--- two tests
-pub both_true : (a b : Bool) → (a && b) ≡ true → (a ≡ true) × (b ≡ true)
-both_true true b e = (refl, e)
-both_true false b e = cc
-
+-- neither of two tests
 pub neither : (a b : Bool) → (a || b) ≡ false → (a ≡ false) × (b ≡ false)
 neither true b e = cc
 neither false b e = (refl, e)
+
+-- the first of what there is, or one of the rest
+pub first_or_rest : {A : Type 0} (P : A → Type 0) (own : Bool) (first found : A) (rest : Option A) → P first → (rest ≡ Some found → P found) → cond own (Some first) rest ≡ Some found → P found
+first_or_rest P true first found rest is later e = let same : first ≡ found = cc in subst P same is
+first_or_rest P false first found rest is later e = later e
 
 -- one answer
 pub same_ok : {A : Type 0} (a b : A) → ◌≡◌ {A = Result A FaultKind} (Ok a) (Ok b) → a ≡ b

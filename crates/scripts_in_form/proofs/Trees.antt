@@ -1,7 +1,6 @@
 -- Each tree reads as something in form.
 use Rattle.std.proofs.Common.{◌≡◌, ◌≤◌, ◌<◌, ℕ, ◌-◌, ◌^◌, pos, Bool, true, false, cond, leb, ltb, List, [], codes, Result, Ok, Err, refl, sym, subst, arith, if◌then◌else◌}
 use Rattle.std.specs.Str.Parse.{digits_value}
-use Rattle.std.proofs.lemmas.Bool.Decides.{nat_tests}
 use Rattle.mbqi_values.specs.declared.fault.FaultKind.{FaultKind}
 use Rattle.mbqi_values.specs.declared.fault.FaultKind.TheVariants.{NumeralTooWide}
 use Rattle.mbqi_terms.specs.declared.formula.Formula.TheVariants as formula
@@ -24,6 +23,8 @@ use Rattle.smtlib_terms.specs.Words.{is_text}
 use Rattle.measured_terms.proofs.FormulaLaws as formula_measure
 use Rattle.measured_terms.proofs.TermLaws as term_measure
 use Rattle.printed_trees.specs.InForm.{HasSort}
+use Rattle.printed_trees.proofs.ReadNumbers.{ltb_lt}
+use Rattle.printed_trees.proofs.ReadParts.{le_true}
 use Rattle.scripts_in_form.proofs.Lists.{list_is_good}
 use Rattle.scripts_in_form.proofs.MovedFormulas.{bound_read}
 use Rattle.scripts_in_form.proofs.NamesApplied.{name_alone}
@@ -57,17 +58,11 @@ symbol_is_read script names scope bindings text next m at is =
     (name_alone script names scope next bindings text m at.signature at.below (bound_read script scope next) at.scoped) is
 
 -- a numeral
-ltb_lt : (a b : ℕ) → ltb a b ≡ true → a < b
-ltb_lt a b e = grind (arith, nat_tests)
-
-le_leb : (a b : ℕ) → a ≤ b → leb a b ≡ true
-le_leb a b e = grind (arith, nat_tests)
-
 number_is_read : (script : Script) (scope : List Binder) (next n : ℕ) (within : Bool) (m : Meaning) → ltb n (2 ^ 63) ≡ within → cond within (Ok (meaning.Term sort.Int (term.Num (pos n)))) (Err NumeralTooWide) ≡ Ok m → IsRead script scope next m
 number_is_read script scope next n true m within is =
     let same : meaning.Term sort.Int (term.Num (pos n)) ≡ m = cc in
     let small = ltb_lt n (2 ^ 63) within in
-    let number : HasSort script scope (term.Num (pos n)) plain.Int = HasSort.number (pos n) (le_leb n (2 ^ 63 - 1) (omega arith)) in
+    let number : HasSort script scope (term.Num (pos n)) plain.Int = HasSort.number (pos n) (le_true n (2 ^ 63 - 1) (omega arith)) in
     let deep = term_measure.depth-Num (pos n) in
     subst (IsRead script scope next) same (record { meaning = record { is = plain.Int; sort = refl; index = tt; term = number }; depth = omega arith })
 number_is_read script scope next n false m within is = cc

@@ -1,3 +1,10 @@
+//! What this crate's readers give and refuse, and the tests of three crates below: the prover reads a crate once more
+//! to build its tests, and takes long over those.
+
+mod measures;
+mod moves;
+mod terms;
+
 use crate::{read_script, read_text};
 use mbqi_terms::{Assertion, Script, Sort, same_formula};
 use mbqi_values::{FaultKind, ReadError, Refusal};

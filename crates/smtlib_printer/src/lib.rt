@@ -19,6 +19,7 @@ mod tests;
 pub use formulas::write_formula_with;
 use mbqi_terms::{ArrayTerm, Formula, Script, Term};
 pub use names::{question_marks, write_name};
+pub use sorts::{write_number, write_sort, write_truth};
 use std::alloc::AllocError;
 pub use terms::{write_array_with, write_term_with, write_terms_with};
 

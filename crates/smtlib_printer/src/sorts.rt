@@ -8,8 +8,8 @@ use itoa::Buffer;
 use mbqi_terms::{Binder, MapOp, Plain, Script, Sort};
 use std::alloc::AllocError;
 
-/// Appends a number: -n is `(- n)`.
-pub(crate) fn write_number(number: i128, into: &mut Vec<u8>) -> Result<(), AllocError>
+/// Appends a number as SMT-LIB 2.6 writes it: -n is `(- n)`. The one error is want of memory.
+pub fn write_number(number: i128, into: &mut Vec<u8>) -> Result<(), AllocError>
     ensures { OnOk result (into.new.items ≡ into.old.items ++ number_text number) }
 {
     let mut buffer = Buffer::new();
@@ -22,8 +22,8 @@ pub(crate) fn write_number(number: i128, into: &mut Vec<u8>) -> Result<(), Alloc
     into.extend_from_slice(b")")
 }
 
-/// Appends `true` or `false`.
-pub(crate) fn write_truth(truth: bool, into: &mut Vec<u8>) -> Result<(), AllocError>
+/// Appends `true` or `false`. The one error is want of memory.
+pub fn write_truth(truth: bool, into: &mut Vec<u8>) -> Result<(), AllocError>
     ensures { OnOk result (into.new.items ≡ into.old.items ++ truth_text truth) }
 {
     if truth {
@@ -43,8 +43,9 @@ fn write_plain(script: &Script, sort: Plain, into: &mut Vec<u8>) -> Result<(), A
     }
 }
 
-/// Appends a sort: an array sort with those of its indices and its elements.
-pub(crate) fn write_sort(script: &Script, sort: Sort, into: &mut Vec<u8>) -> Result<(), AllocError>
+/// Appends a sort of the script: an array sort with those of its indices and its elements. A sort that the script lacks
+/// has the empty name. The one error is want of memory.
+pub fn write_sort(script: &Script, sort: Sort, into: &mut Vec<u8>) -> Result<(), AllocError>
     ensures { OnOk result (into.new.items ≡ into.old.items ++ sort_text script.now sort) }
 {
     match sort {

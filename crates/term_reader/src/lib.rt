@@ -13,7 +13,5 @@ mod numeral;
 mod plan;
 mod reading;
 mod scope;
-#[cfg(test)]
-mod tests;
 
 pub use defining::{check_definition, define_macro, read_formula};

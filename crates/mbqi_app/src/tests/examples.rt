@@ -163,3 +163,24 @@ pub const OVERTAKING: Case = Case {
 )
 ",
 };
+
+/// A test that runs, or not.
+pub const BETA_TEST: Case = Case {
+    script: "; A beta test: no user sees the new page unless the test runs. Ann sees it.
+(declare-sort User 0)
+(declare-const ann User)
+(declare-fun beta () Bool)
+(declare-fun sees (User) Bool)
+(assert (forall ((x User)) (or beta (not (sees x)))))
+(assert (sees ann))
+(check-sat)
+",
+    answer: "sat
+(model 1
+(sort User 2)
+(fun ann () () @0)
+(fun beta () () true)
+(fun sees ((@0 @1)) (((@0) true)) false)
+)
+",
+};

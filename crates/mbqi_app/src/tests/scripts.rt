@@ -473,7 +473,7 @@ pub const BETWEEN_BARS: Case = Case {
 (sort |the sort| 2)
 (fun |a b| () () @0)
 (fun |the sort| ((@0 @1)) (((@0) false)) false)
-(fun on () ((() true)) false)
+(fun on () () true)
 )
 ",
 };

@@ -16,6 +16,7 @@ use Rattle.ground_form.specs.declared.atoms.GroundAtom.{GroundAtom}
 use Rattle.element_models.specs.Elements.{tables_from, hidden_from}
 use Rattle.element_models.specs.Filling.{AreTables, IsRaised, NamesPredicate}
 use Rattle.element_models.specs.Rows.{rows_of}
+use Rattle.element_models.proofs.BareTables.{IsBare, all_are_bare}
 use Rattle.element_models.proofs.Counting.{size_of, terms_of, length_terms}
 use Rattle.element_models.proofs.Fitting.{model_fits}
 use Rattle.element_models.proofs.Values.{decided, element_value}
@@ -66,6 +67,14 @@ returns-clause-fits c =
     let sizes = c.in_ok-sizes.ensures ∙ (λ i. replicate (c.len-sorts.ensures i) (size i)) in
     model_fits c.rows_fit.ensures script c.in_ok-sizes.sizes c.from_vec.result atoms truths c.requires.elementary
     (subst (λ (ts : List Term). All (IsOver script.functions ts) atoms) pool c.requires.over) sizes are
+
+pub returns-clause-bare : goal.returns-clause-bare
+returns-clause-bare c =
+    let are = c.in_ok-tables.ensures in
+    let all = c.from_vec.ensures ∙ are.all in
+    subst (All IsBare) (sym all)
+    (all_are_bare (rows_of c.args.atoms.now c.args.truths.now) c.universe_size-size.result (c.universe_size-size.result - 1) c.len-sorts.result
+    c.as_slice-functions.result.now are.declared are.raised)
 
 pub returns-clause-elements : goal.returns-clause-elements
 returns-clause-elements c =

@@ -2,9 +2,9 @@ use Rattle.std.proofs.lemmas.Result.{on_ok_weaker}
 use Rattle.element_models.proofs.Filling.{put_at}
 use Rattle.element_models.proofs.rows.put_row.Goals as goal
 
--- the table of the number, with the row behind its others
+-- the table of the number, with the row put into it
 pub returns : goal.returns
 returns c =
-    on_ok_weaker c.push.result
-    (λ rows. put_at c.args.tables.now.items c.args.at c.args.row c.index_mut.result.now c.push.new.self c.requires c.index_mut.ensures.value rows)
-    c.push.ensures.ok
+    on_ok_weaker c.put_last.result
+    (λ is. put_at c.args.tables.now.items c.args.at c.args.row c.index_mut.result.now c.put_last.new.table c.requires c.index_mut.ensures.value is)
+    c.put_last.ensures

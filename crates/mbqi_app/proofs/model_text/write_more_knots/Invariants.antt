@@ -1,5 +1,6 @@
 use Rattle.std.proofs.Common.{◌≡◌, ◌++◌, map, take}
-use Rattle.mbqi_app.specs.ModelText.{spaced_rest, values_text}
+use Rattle.smtlib_printer.specs.Text.{spaced_rest}
+use Rattle.mbqi_app.specs.ModelText.{values_text}
 use Rattle.mbqi_app.proofs.model_text.write_more_knots.Given as goal
 
 abbrev pub invariant-loop-values : goal.invariant-loop-values

@@ -1,5 +1,6 @@
 use Rattle.std.proofs.Common.{◌≡◌, ◌++◌, map, take}
-use Rattle.mbqi_app.specs.ModelText.{spaced_rest, value_text}
+use Rattle.smtlib_printer.specs.Text.{spaced_rest}
+use Rattle.mbqi_app.specs.ModelText.{value_text}
 use Rattle.mbqi_app.proofs.model_text.write_more_values.Given as goal
 
 abbrev pub invariant-loop-value : goal.invariant-loop-value

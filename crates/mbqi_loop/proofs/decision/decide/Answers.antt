@@ -1,4 +1,8 @@
+use Rattle.std.proofs.Common.{◌≡◌, []}
+use Rattle.std.proofs.lemmas.List.Elements.{All-filter}
 use Rattle.function_model.specs.Holds.{values_in}
+use Rattle.function_model.specs.Shown.{is_shown}
+use Rattle.function_model.specs.declared.model.Table.{Table}
 use Rattle.mbqi_loop.specs.Journal.{first_lines}
 use Rattle.mbqi_loop.proofs.Rounds.{listed_true, first_true, each_named}
 use Rattle.mbqi_loop.proofs.Rules.{script_holds}
@@ -33,3 +37,9 @@ returns-in_ok-added-in-Found-clause-holds c = λ none.
     (each_named script c.args.pool.now model c.requires.elementary c.requires.pool c.in_ok-model-in-Found.ensures.sizes c.in_ok-model-in-Found.ensures.elements)
     (elsewhere none (values_in model) decides) c.requires.elementary
     (first_true (values_in model) (first_lines script) c.requires.first.0 c.args.listed.now.lines c.requires.first.1 listed)
+
+-- what is shown is some of the model's tables
+pub returns-in_ok-added-in-Found-clause-bare : goal.returns-in_ok-added-in-Found-clause-bare
+returns-in_ok-added-in-Found-clause-bare c =
+    All-filter (λ (table : Table). is_shown table.name) (λ (table : Table). table.knots ≡ [] → table.rows ≡ []) c.in_ok-model-in-Found.model.tables
+    c.in_ok-model-in-Found.ensures.bare

@@ -1,8 +1,8 @@
-use crate::{
-    MeasuredArray, MeasuredFormula, MeasuredFormulas, MeasuredSymbol, MeasuredTerm, MeasuredTerms,
-};
 use mbqi_terms::{Binder, Sort};
 use mbqi_values::Sequence;
+use measured_terms::{
+    MeasuredArray, MeasuredFormula, MeasuredFormulas, MeasuredSymbol, MeasuredTerm, MeasuredTerms,
+};
 use std::alloc::{AllocError, Global};
 
 /// A declared predicate of the variable of place 0.

@@ -1,7 +1,7 @@
-use crate::{Shift, measured_array, moved_formula};
 use mbqi_terms::{Binder, Binders, Sort, same_formula};
 use mbqi_values::Sequence;
 use measured_terms::{MeasuredArray, MeasuredFormula, MeasuredSymbol, MeasuredTerm, MeasuredTerms};
+use moved_terms::{Shift, measured_array, moved_formula};
 use std::alloc::{AllocError, Global};
 
 /// A declared predicate of the variables of two places.

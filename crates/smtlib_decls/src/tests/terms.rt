@@ -1,10 +1,10 @@
-use crate::{define_macro, read_formula};
 use mbqi_terms::{Formula, Plain, Sort, same_formula};
 use mbqi_values::{FaultKind, ReadError, Sequence};
 use sexpr_text::read_forms;
 use smtlib_names::names::Names;
 use std::alloc::{AllocError, Global};
 use std::test::Fail;
+use term_reader::{define_macro, read_formula};
 
 /// Declares what the rows speak of.
 fn declare(alloc: Global, names: &mut Names) -> Result<(), ReadError> {
