@@ -67,7 +67,7 @@ last_of v (first ∷ rows) row = last_of first.value rows row
 -- one more row of a predicate
 put_one : (rows : List Row) (row : Row) (f size : ℕ) (args : List Sort)
     → put_in (knots_of size args) (predicate_table rows f size args) row ≡ predicate_table (rows ++ row ∷ []) f size args
-put_one rows row f size [] = λ i. bare_table (Declared f) (last_of (value.Truth false) rows row (~ i))
+put_one rows row f size [] = ap (bare_table (Declared f)) (sym (last_of (value.Truth false) rows row))
 put_one rows row f size (arg ∷ args) = refl
 
 in_predicate : (b : Bool) (rows : List Row) (row : Row) (more : List Row) (f e size : ℕ) (args : List Sort) → b ≡ false → more ≡ rows ++ row ∷ []

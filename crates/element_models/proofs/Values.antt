@@ -1,10 +1,10 @@
 -- In the model of atoms with truths each term of the pool is its element, and each atom has its truth.
-use Rattle.std.proofs.Common.{◌≡◌, ℕ, ◌+◌, ◌-◌, ◌<◌, ◌≤◌, Bool, false, List, [], ◌∷◌, length, length-map, map, get_or, refl, ap, sym, subst, ◌∙◌, ⊎_elim, arith, rules}
+use Rattle.std.proofs.Common.{◌≡◌, ℕ, ◌+◌, ◌-◌, ◌<◌, ◌≤◌, Bool, false, List, [], ◌∷◌, length, map, get_or, refl, ap, sym, subst, ◌∙◌, ⊎_elim, arith, rules}
 use Rattle.std.specs.Prelude.{All, Contains, pos}
 use Rattle.std.specs.List.{AllByRecursion, find}
 use Rattle.std.proofs.Math.Seq.{get_or-append_seam}
 use Rattle.std.proofs.lemmas.Bool.{cases_lt}
-use Rattle.std.proofs.lemmas.List.{get_or_append_left}
+use Rattle.std.proofs.lemmas.List.{get_or_append_left, length-map}
 use Rattle.std.proofs.lemmas.List.Elements.{recursion_from_All, All-weaker}
 use Rattle.std.proofs.lemmas.Option.{slice_get_within, get_or_from_slice_get}
 use Rattle.mbqi_values.specs.declared.value.Value.{Value}
@@ -122,7 +122,7 @@ module _ (sizes : List ℕ) (sorts : ℕ) (functions : List Function) (atoms : L
       ∙ (ap (λ g. looked_up_in (predicate_table (rows_of atoms truths g) g size (get_or functions p function).args) args) number
       ∙ (ap (λ (f : Function). looked_up_in (predicate_table (rows_of atoms truths p) p size f.args) args) read
       ∙ predicate_gives (rows_of atoms truths p) p size function.args args
-      (length-map element_of atom.args ∙ is.predicate.3)
+      (length-map atom.args element_of ∙ is.predicate.3)
       (let P : Function → Type 0 = λ f. AllByRecursion (IsRow (size ∷ []) (knots_of size f.args) sort.Truth) (rows_of atoms truths p) in
       subst P read (wanted_rows functions atoms truths over p function within (subst IsPredicate (sym read) is.predicate.2)))
       (rows_agree atoms truths p distinct))))))
