@@ -1,5 +1,5 @@
 -- What a script's names stand for, macros among them: a formula that is read is in form.
-use Rattle.std.proofs.Common.{◌≡◌, ◌≤◌, ℕ, List, [], ◌∷◌, length, Option, Some, Ok, subst, arith}
+use Rattle.std.proofs.Common.{◌≡◌, ◌≤◌, ℕ, List, [], ◌∷◌, length, Some, Ok, subst, arith}
 use Rattle.std.specs.List.{fold}
 use Rattle.mbqi_terms.specs.declared.formula.Formula.{Formula}
 use Rattle.mbqi_terms.specs.declared.script.Function.{Function}
@@ -12,7 +12,7 @@ use Rattle.smtlib_terms.specs.declared.names.Macro.{Macro}
 use Rattle.smtlib_terms.specs.declared.names.Parameter.{Parameter}
 use Rattle.smtlib_terms.specs.Declaring.{Declarations, arguments, formula_read, names_of, reader_of, with_macro}
 use Rattle.smtlib_terms.specs.Meaning.{depth_of_formula}
-use Rattle.smtlib_terms.specs.Names.{Reader, Signature, function_named, macro_named}
+use Rattle.smtlib_terms.specs.Names.{Signature, function_named, macro_named}
 use Rattle.smtlib_terms.specs.Operators.{as_formula}
 use Rattle.smtlib_terms.specs.Reading.{meant_by, side}
 use Rattle.smtlib_terms.specs.Words.{is_text}
