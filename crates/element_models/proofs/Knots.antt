@@ -1,8 +1,9 @@
 -- Every element as a knot.
-use Rattle.std.proofs.Common.{◌≡◌, ℕ, zero, suc, ◌+◌, ◌-◌, ◌<◌, ◌≤◌, Bool, true, false, true≢false, ◌&&◌, ◌||◌, List, [], ◌∷◌, length, map, get_or, refl, sym, ap, subst, ◌∙◌, arith, rules}
+use Rattle.std.proofs.Common.{◌≡◌, ℕ, zero, suc, ◌+◌, ◌-◌, ◌<◌, ◌≤◌, true, false, true≢false, ◌||◌, List, [], ◌∷◌, length, map, get_or, refl, sym, ap, subst, ◌∙◌, arith, rules}
 use Rattle.std.specs.Prelude.{Contains, if◌then◌else◌}
 use Rattle.std.specs.Ordering.{is_eq, nat_cmp}
 use Rattle.std.specs.List.{AllByRecursion, list_any}
+use Rattle.std.proofs.lemmas.Bool.{and_from, and_parts}
 use Rattle.std.proofs.lemmas.Bool.Decides.{nat_tests}
 use Rattle.mbqi_values.specs.declared.value.Value.{Value}
 use Rattle.mbqi_values.specs.declared.value.Value.TheVariants as value
@@ -79,14 +80,6 @@ stand size (arg ∷ args) [] many below = absurd (omega (arith, many))
 stand size (arg ∷ args) (id ∷ ids) many below =
     (contains_element size id.0 below.0, stand size args ids (omega (arith, many)) below.1)
 
-both : (a b : Bool) → a ≡ true → b ≡ true → (a && b) ≡ true
-both true b p q = q
-both false b p q = absurd (true≢false (sym p))
-
-apart : (a b : Bool) → (a && b) ≡ true → (a ≡ true) × (b ≡ true)
-apart true b e = (refl, e)
-apart false b e = absurd (true≢false (sym e))
-
 -- and are at their own places, and no others
 pub at_itself : (size : ℕ) (args : List Sort) (ids : List TermId) → length ids ≡ length args → AllByRecursion (λ id. id.0 < size) ids
     → is_at (map element_of ids) (knots_of size args) (map element_of ids) ≡ true
@@ -94,7 +87,7 @@ at_itself size [] [] many below = refl
 at_itself size [] (id ∷ ids) many below = absurd (omega (arith, many))
 at_itself size (arg ∷ args) [] many below = absurd (omega (arith, many))
 at_itself size (arg ∷ args) (id ∷ ids) many below =
-    both (is_same (value.Elem id.0) (projected (elements_from 0 size) (value.Elem id.0))) (is_at (map element_of ids) (knots_of size args) (map element_of ids))
+    and_from (is_same (value.Elem id.0) (projected (elements_from 0 size) (value.Elem id.0))) (is_at (map element_of ids) (knots_of size args) (map element_of ids))
     (ap (is_same (value.Elem id.0)) (itself size id.0 below.0) ∙ same_number id.0 id.0 refl)
     (at_itself size args ids (omega (arith, many)) below.1)
 
@@ -113,7 +106,7 @@ at_only size (arg ∷ args) [] [] below e = absurd (true≢false (sym e))
 at_only size (arg ∷ args) [] (p ∷ places) below e = absurd (true≢false (sym e))
 at_only size (arg ∷ args) (id ∷ ids) [] below e = absurd (true≢false (sym e))
 at_only size (arg ∷ args) (id ∷ ids) (p ∷ places) below e =
-    let parts = apart (is_same p (projected (elements_from 0 size) (value.Elem id.0))) (is_at places (knots_of size args) (map element_of ids)) e in
+    let parts = and_parts (is_same p (projected (elements_from 0 size) (value.Elem id.0))) (is_at places (knots_of size args) (map element_of ids)) e in
     let first = same_element p id.0 (ap (is_same p) (sym (itself size id.0 below.0)) ∙ parts.0) in
     let later = at_only size args ids places below.1 parts.1 in
     λ i. first i ∷ later i

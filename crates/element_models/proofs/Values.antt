@@ -1,6 +1,6 @@
 -- In the model of atoms with truths each term of the pool is its element, and each atom has its truth.
 use Rattle.std.proofs.Common.{◌≡◌, ℕ, ◌+◌, ◌-◌, ◌<◌, ◌≤◌, Bool, false, List, [], ◌∷◌, length, map, get_or, refl, ap, sym, subst, ◌∙◌, ⊎_elim, arith, rules}
-use Rattle.std.specs.Prelude.{All, Contains, pos}
+use Rattle.std.specs.Prelude.{All, pos}
 use Rattle.std.specs.List.{AllByRecursion, find}
 use Rattle.std.proofs.Math.Seq.{get_or-append_seam}
 use Rattle.std.proofs.lemmas.Bool.{cases_lt}

@@ -14,7 +14,7 @@ use Rattle.mbqi_terms.specs.declared.term.Term.{Term}
 use Rattle.mbqi_terms.specs.declared.term.Term.TheVariants as term
 use Rattle.ground_form.specs.Profile.{the_sort, IsArgument, IsAtom, IsClause, IsConstantTerm, IsLiteral, IsRule, for_all, variables_from}
 use Rattle.ground_form.proofs.Numbers.{same_declared}
-use Rattle.ground_form.proofs.Truths.{any_literals}
+use Rattle.ground_form.proofs.Truths.{any_literals, out-any, out-atom, out-not}
 use Rattle.first_profile.specs.Parts.{AreVariables, NamesPredicate}
 
 -- one more element
@@ -82,15 +82,6 @@ next_variable n =
     ap (λ p. variables_from 0 n ++ record { place = p; sort = the_sort } ∷ []) same ∙ (next_from 0 n ∙ ap (variables_from 0) more)
 
 -- one level of a formula
-out-atom : (t : Term) → out-Formula (formula.Atom t) ≡ Formula-F.Atom t
-out-atom t = ap out-Formula (sym (formula.rolls-Atom t)) ∙ out-roll-Formula (Formula-F.Atom t)
-
-out-not : (f : Formula) → out-Formula (formula.Not f) ≡ Formula-F.Not f
-out-not f = ap out-Formula (sym (formula.rolls-Not f)) ∙ out-roll-Formula (Formula-F.Not f)
-
-out-any : (fs : List Formula) → out-Formula (formula.Any fs) ≡ Formula-F.Any fs
-out-any fs = ap out-Formula (sym (formula.rolls-Any fs)) ∙ out-roll-Formula (Formula-F.Any fs)
-
 out-forall : (binders : List Binder) (f : Formula) → out-Formula (formula.Forall binders f) ≡ Formula-F.Forall binders f
 out-forall binders f = ap out-Formula (sym (formula.rolls-Forall binders f)) ∙ out-roll-Formula (Formula-F.Forall binders f)
 

@@ -1,5 +1,6 @@
 -- A look-up gives the same in two lists of the same rows, where rows at the same places have the same value.
-use Rattle.std.proofs.Common.{◌≡◌, suc, Bool, true, false, true≢false, ◌&&◌, List, [], ◌∷◌, All, Contains, ◌↔◌, ◌⊎◌, inl, inr, ⊎_elim, if◌then◌else◌, refl, ap, sym, ◌∙◌, arith}
+use Rattle.std.proofs.Common.{◌≡◌, suc, Bool, true, false, true≢false, List, [], ◌∷◌, All, Contains, ◌↔◌, ◌⊎◌, inl, inr, ⊎_elim, if◌then◌else◌, refl, ap, sym, ◌∙◌, arith}
+use Rattle.std.proofs.lemmas.Bool.{and_parts}
 use Rattle.std.proofs.lemmas.List.Elements.{All-nil, All-cons, All-contains}
 use Rattle.mbqi_values.specs.declared.value.Value.{Value}
 use Rattle.function_model.specs.declared.model.Row.{Row}
@@ -13,10 +14,6 @@ knots_of [] vs = []
 knots_of (ks ∷ kss) [] = []
 knots_of (ks ∷ kss) (v ∷ vs) = projected ks v ∷ knots_of kss vs
 
-both_true : (a b : Bool) → (a && b) ≡ true → (a ≡ true) × (b ≡ true)
-both_true true b e = (refl, e)
-both_true false b e = absurd (true≢false (sym e))
-
 at_knots : (ps : List Value) (kss : List (List Value)) (vs : List Value) → is_at ps kss vs ≡ true → ps ≡ knots_of kss vs
 at_knots [] [] vs e = refl
 at_knots [] (ks ∷ kss) [] e = refl
@@ -25,7 +22,7 @@ at_knots (p ∷ ps) [] [] e = absurd (true≢false (sym e))
 at_knots (p ∷ ps) [] (v ∷ vs) e = absurd (true≢false (sym e))
 at_knots (p ∷ ps) (ks ∷ kss) [] e = absurd (true≢false (sym e))
 at_knots (p ∷ ps) (ks ∷ kss) (v ∷ vs) e =
-    let both = both_true (is_same p (projected ks v)) (is_at ps kss vs) e in
+    let both = and_parts (is_same p (projected ks v)) (is_at ps kss vs) e in
     λ i. same_value p (projected ks v) both.0 i ∷ at_knots ps kss vs both.1 i
 
 module _ (knots : List (List Value)) (args : List Value) (default : Value) where

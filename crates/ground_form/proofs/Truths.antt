@@ -20,13 +20,14 @@ use Rattle.ground_form.specs.Numbering.{IsAtomOf, IsLitOf, IsClauseOf}
 use Rattle.ground_form.specs.Profile.{IsClause, IsLiteral}
 use Rattle.ground_form.specs.declared.atoms.GroundAtom.{GroundAtom}
 
-out-atom : (t : Term) → out-Formula (formula.Atom t) ≡ Formula-F.Atom t
+-- the layers of formulas
+pub out-atom : (t : Term) → out-Formula (formula.Atom t) ≡ Formula-F.Atom t
 out-atom t = ap out-Formula (sym (formula.rolls-Atom t)) ∙ out-roll-Formula (Formula-F.Atom t)
 
-out-not : (f : Formula) → out-Formula (formula.Not f) ≡ Formula-F.Not f
+pub out-not : (f : Formula) → out-Formula (formula.Not f) ≡ Formula-F.Not f
 out-not f = ap out-Formula (sym (formula.rolls-Not f)) ∙ out-roll-Formula (Formula-F.Not f)
 
-out-any : (fs : List Formula) → out-Formula (formula.Any fs) ≡ Formula-F.Any fs
+pub out-any : (fs : List Formula) → out-Formula (formula.Any fs) ≡ Formula-F.Any fs
 out-any fs = ap out-Formula (sym (formula.rolls-Any fs)) ∙ out-roll-Formula (Formula-F.Any fs)
 
 atom_no_any : (t : Term) (fs : List Formula) → formula.Atom t ≡ formula.Any fs → ⊥

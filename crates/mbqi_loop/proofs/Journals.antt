@@ -1,5 +1,5 @@
 -- Rounds lead from list to list, and never add a choice twice.
-use Rattle.std.proofs.Common.{◌≡◌, ℕ, zero, suc, ◌+◌, ◌≤◌, true, false, true≢false, ◌⊎◌, inl, inr, List, [], ◌∷◌, ◌++◌, length, Some, slice_get, sym, ap, subst, ◌∙◌, arith, append_assoc, append-nil, length-append}
+use Rattle.std.proofs.Common.{◌≡◌, ℕ, ◌+◌, ◌≤◌, true, false, true≢false, List, [], ◌∷◌, ◌++◌, length, Some, slice_get, sym, ap, subst, ◌∙◌, arith, append_assoc, append-nil, length-append}
 use Rattle.std.specs.Prelude.{All, Contains}
 use Rattle.std.specs.List.{list_all}
 use Rattle.std.proofs.lemmas.List.Elements.{All-append, All-cons, All-contains, All-nil, All-weaker, recursion_from_All, Contains-append_left, Contains-append_right, Contains-push}
@@ -15,6 +15,7 @@ use Rattle.function_model.specs.TruthOf.{Meanings, truth_of}
 use Rattle.ground_form.specs.Atoms.{formulas_in}
 use Rattle.rule_form.specs.Rules.{IsChoice, line_of, lines_of}
 use Rattle.rule_form.specs.declared.choice.Choice.{Choice}
+use Rattle.tuple_check.proofs.TupleLists.{distinct_append}
 use Rattle.mbqi_loop.specs.Journal.{IsRound, Lead, lines_after, added_in}
 use Rattle.mbqi_loop.specs.declared.outcome.Round.{Round}
 
@@ -33,25 +34,6 @@ lead_front script lines [] last lead = ([], sym lead ∙ sym (append-nil lines))
 lead_front script lines (round ∷ rounds) last lead =
     let rest = lead_front script (lines_after script lines round) rounds last lead.2 in
     (lines_of script.assertions round.added ++ rest.0, rest.1 ∙ append_assoc lines (lines_of script.assertions round.added) rest.0)
-
--- a place in two lists joined is a place in the first, or one in the second
-place_cases : {X : Type 0} (xs ys : List X) (i : ℕ) (x : X) → slice_get (xs ++ ys) i ≡ Some x
-    → (slice_get xs i ≡ Some x) ⊎ ((k : ℕ) × (i ≡ length xs + k) × (slice_get ys k ≡ Some x))
-place_cases [] ys i x e = inr (i, omega arith, e)
-place_cases (y ∷ xs) ys zero x e = inl e
-place_cases (y ∷ xs) ys (suc i) x e =
-    elim (place_cases xs ys i x e) [ inl h ↦ inl h | inr h ↦ inr (h.0, omega (arith, h.1), h.2) ]
-
-distinct_append : {X : Type 0} (xs ys : List X) → AreDistinct xs → AreDistinct ys
-    → ((i j : ℕ) (x : X) → slice_get xs i ≡ Some x → slice_get ys j ≡ Some x → ⊥) → AreDistinct (xs ++ ys)
-distinct_append xs ys one two apart i j x e f =
-    elim (place_cases xs ys i x e) [
-      | inl h ↦ elim (place_cases xs ys j x f) [ inl k ↦ one i j x h k | inr k ↦ absurd (apart i k.0 x h k.2) ]
-      | inr h ↦ elim (place_cases xs ys j x f) [
-        | inl k ↦ absurd (apart j h.0 x k h.2)
-        | inr k ↦ let same : h.0 ≡ k.0 = two h.0 k.0 x h.2 k.2 in omega (arith, same, h.1, k.1)
-      ]
-    ]
 
 -- instances that are true together are true each
 each_true : (m : Meanings) (lines : List InstanceLine) → list_all (truth_of m) (formulas_in lines) ≡ true

@@ -5,14 +5,9 @@ use Rattle.std.specs.Prelude.{All}
 use Rattle.std.specs.List.{list_any}
 use Rattle.std.proofs.lemmas.List.Elements.{All-head, All-tail}
 use Rattle.mbqi_values.specs.declared.value.Value.{Value}
-use Rattle.mbqi_terms.specs.declared.formula.Formula as formulas
 use Rattle.mbqi_terms.specs.declared.formula.Formula.{Formula}
-use Rattle.mbqi_terms.specs.declared.formula.Formula.TheFolds.{fold-roll-Formula}
-use Rattle.mbqi_terms.specs.declared.formula.Formula.TheOpen.{Formula-F}
 use Rattle.mbqi_terms.specs.declared.formula.Formula.TheVariants as formula
-use Rattle.mbqi_terms.specs.declared.formula.Formula.TheVariants.{rolls-Any}
 use Rattle.mbqi_terms.specs.declared.script.Function.{Function}
-use Rattle.mbqi_terms.specs.declared.term.Symbol as symbols
 use Rattle.mbqi_terms.specs.declared.term.Symbol.TheVariants as symbol
 use Rattle.mbqi_terms.specs.declared.term.Term as terms
 use Rattle.mbqi_terms.specs.declared.term.Term.{Term}
@@ -22,34 +17,11 @@ use Rattle.function_model.specs.Lookup.{is_declared, looked_up, table_where}
 use Rattle.function_model.specs.TruthOf.{truth_of}
 use Rattle.function_model.specs.ValueOf.{Point, is_true, value_of}
 use Rattle.function_model.specs.declared.model.FunctionModel.{FunctionModel}
-use Rattle.ground_form.specs.Profile.{IsArgument, IsAtom, IsClause, IsLiteral, constant}
-use Rattle.rule_form.specs.Substitution.{put_into, put_into_formula, put_formula_layer}
+use Rattle.ground_form.specs.Profile.{IsArgument, IsAtom, IsClause, IsLiteral}
+use Rattle.rule_form.specs.Substitution.{put_into, put_into_formula}
+use Rattle.rule_form.proofs.Putting.{put_any, put_apply, put_atom, put_constant, put_not, put_variable}
 use Rattle.mbqi_loop.proofs.Atoms.{value_apply}
 use Rattle.mbqi_loop.proofs.Holding.{truth_any, truth_atom, truth_not, values_at}
-
-put_constant : (at : ℕ → Term) (c : ℕ) → put_into at (constant c) ≡ constant c
-unfolding put_into
-put_constant at c = search (rules, terms.the_lemmas, symbols.the_lemmas)
-
-put_variable : (at : ℕ → Term) (place : ℕ) → put_into at (term.Var place) ≡ at place
-unfolding put_into
-put_variable at place = search (rules, terms.the_lemmas)
-
-put_apply : (at : ℕ → Term) (f : ℕ) (ts : List Term) → put_into at (term.Apply (symbol.Declared f) ts) ≡ term.Apply (symbol.Declared f) (map (put_into at) ts)
-unfolding put_into
-put_apply at f ts = search (rules, terms.the_lemmas, symbols.the_lemmas)
-
-put_atom : (at : ℕ → Term) (t : Term) → put_into_formula at (formula.Atom t) ≡ formula.Atom (put_into at t)
-unfolding put_into_formula
-put_atom at t = search (rules, formulas.the_lemmas)
-
-put_not : (at : ℕ → Term) (f : Formula) → put_into_formula at (formula.Not f) ≡ formula.Not (put_into_formula at f)
-unfolding put_into_formula
-put_not at f = search (rules, formulas.the_lemmas)
-
-put_any : (at : ℕ → Term) (fs : List Formula) → put_into_formula at (formula.Any fs) ≡ formula.Any (map (put_into_formula at) fs)
-unfolding put_into_formula
-put_any at fs = ap (put_into_formula at) (sym (rolls-Any fs)) ∙ fold-roll-Formula Formula (put_formula_layer at) (Formula-F.Any fs)
 
 -- arguments are replaced, and the rest of a clause is as before
 pub record Replaces (put : Term → Term) (put_formula : Formula → Formula) : Type 0 where

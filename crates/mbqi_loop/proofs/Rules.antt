@@ -1,16 +1,14 @@
 -- Each rule holds in the shown part of a model where the first instances are true in the model, and the instances at pool terms of the
 -- rules with variables.
-use Rattle.std.proofs.Common.{◌≡◌, ℕ, zero, suc, ◌+◌, ◌<◌, Bool, true, false, List, [], ◌∷◌, length, refl, sym, ap, subst, ◌∙◌, inl, inr, ◌&&◌, arith}
+use Rattle.std.proofs.Common.{◌≡◌, ℕ, zero, suc, ◌+◌, ◌<◌, true, List, [], ◌∷◌, length, refl, sym, ap, subst, ◌∙◌, arith}
 use Rattle.std.specs.Prelude.{All, Contains, Some, slice_get}
 use Rattle.std.specs.List.{AllByRecursion, list_all}
+use Rattle.std.proofs.lemmas.Bool.{and_parts}
 use Rattle.std.proofs.lemmas.Option.{slice_get_within}
 use Rattle.mbqi_values.specs.declared.value.Value.{Value}
 use Rattle.mbqi_terms.specs.declared.formula.Formula.{Formula}
-use Rattle.mbqi_terms.specs.declared.formula.Formula.TheBlock.{hidden-the_row-Formula-0, hidden-the_row-Formula-1}
-use denote.Hole.Carrier.{hidden}
 use Rattle.mbqi_terms.specs.declared.formula.Formula.TheVariants as formula
 use Rattle.mbqi_terms.specs.declared.script.Assertion.{Assertion}
-use Rattle.mbqi_terms.specs.declared.script.Function.{Function}
 use Rattle.mbqi_terms.specs.declared.script.Script.{Script}
 use Rattle.mbqi_terms.specs.declared.sort.Binder.{Binder}
 use Rattle.mbqi_terms.specs.declared.term.Term.{Term}
@@ -22,10 +20,12 @@ use Rattle.function_model.specs.TruthOf.{truth_of}
 use Rattle.function_model.specs.ValueOf.{Point, value_of}
 use Rattle.function_model.specs.declared.model.FunctionModel.{FunctionModel}
 use Rattle.ground_form.specs.Atoms.{formulas_in}
-use Rattle.ground_form.specs.Profile.{IsArgument, IsClause, IsElementary, IsLiteral, IsRule, for_all, the_sort, variables_from}
+use Rattle.ground_form.specs.Profile.{IsArgument, IsClause, IsElementary, IsRule, for_all, the_sort, variables_from}
 use Rattle.rule_form.specs.Rules.{IsChoice, IsOpen, assertion_at, clause_at, clause_of, first_from, first_with, formula_of, line_of, pool_terms, term_at, variables_of}
 use Rattle.rule_form.specs.Substitution.{put_into, put_into_formula}
 use Rattle.rule_form.specs.declared.choice.Choice.{Choice}
+use Rattle.rule_form.proofs.Rests.{AtFrom, from_first, from_here, from_next}
+use Rattle.rule_form.proofs.Shapes.{clause_forall, variables_clause, variables_forall}
 use Rattle.mbqi_loop.proofs.Holding.{clause_holds, holds_for_all}
 use Rattle.mbqi_loop.proofs.Points.{Names, for_each}
 use Rattle.mbqi_loop.proofs.Putting.{argument_value, clause_same, constant_value, nothing_put, terms_put}
@@ -34,37 +34,6 @@ use Rattle.mbqi_loop.proofs.Putting.{argument_value, clause_same, constant_value
 length_variables : (place n : ℕ) → length (variables_from place n) ≡ n
 length_variables place zero = refl
 length_variables place (suc n) = ap suc (length_variables (place + 1) n)
-
-variables_forall : (bs : List Binder) (f : Formula) → variables_of (formula.Forall bs f) ≡ length bs
-variables_forall bs f = refl
-
-clause_forall : (bs : List Binder) (f : Formula) → clause_of (formula.Forall bs f) ≡ f
-unfolding hidden-the_row-Formula-0 hidden hidden-the_row-Formula-1
-clause_forall bs f = refl
-
-variables_literal : (functions : List Function) (IsArg : Term → Type 0) (f : Formula) → IsLiteral functions IsArg f → variables_of f ≡ 0
-variables_literal functions IsArg f is = elim is.2 [ inl e ↦ ap variables_of e | inr e ↦ ap variables_of e ]
-
-variables_clause : (functions : List Function) (IsArg : Term → Type 0) (f : Formula) → IsClause functions IsArg f → variables_of f ≡ 0
-variables_clause functions IsArg f (inl one) = variables_literal functions IsArg f one
-variables_clause functions IsArg f (inr any) = ap variables_of any.1
-
-both : (a b : Bool) → (a && b) ≡ true → (a ≡ true) × (b ≡ true)
-both true b h = (refl, h)
-both false b h = cc
-
--- the rest of a list, whose first element has number k in the whole
-abbrev AtFrom : {X : Type 0} → List X → ℕ → List X → Type 0
-AtFrom {X} whole k rest = (i : ℕ) (x : X) → slice_get rest i ≡ Some x → slice_get whole (k + i) ≡ Some x
-
-from_next : {X : Type 0} (whole : List X) (k : ℕ) (x : X) (rest : List X) → AtFrom whole k (x ∷ rest) → AtFrom whole (k + 1) rest
-from_next whole k x rest at i y e = let n : k + suc i ≡ k + 1 + i = omega arith in subst (λ j. slice_get whole j ≡ Some y) n (at (suc i) y e)
-
-from_here : {X : Type 0} (whole : List X) (k : ℕ) (x : X) (rest : List X) → AtFrom whole k (x ∷ rest) → slice_get whole k ≡ Some x
-from_here whole k x rest at = let n : k + 0 ≡ k = omega arith in subst (λ j. slice_get whole j ≡ Some x) n (at 0 x refl)
-
-from_first : {X : Type 0} (whole : List X) → AtFrom whole 0 whole
-from_first whole i x e = let n : i ≡ 0 + i = omega arith in subst (λ j. slice_get whole j ≡ Some x) n e
 
 -- each value of the sort is that of a term of the pool
 abbrev pub IsNamed : Script → FunctionModel → Type 0
@@ -142,7 +111,7 @@ module _ (script : Script) (model : FunctionModel) (fits : Fits script (shown_of
       by : (n : ℕ) → list_all (truth_of (values_in model)) (formulas_in (first_with n k a.formula (first_from (k + 1) assertions))) ≡ true
           → (n ≡ 0 → truth_of (values_in model) a.formula ≡ true) × (list_all (truth_of (values_in model)) (formulas_in (first_from (k + 1) assertions)) ≡ true)
       by zero h =
-          let parts = both (truth_of (values_in model) a.formula) (list_all (truth_of (values_in model)) (formulas_in (first_from (k + 1) assertions))) h in
+          let parts = and_parts (truth_of (values_in model) a.formula) (list_all (truth_of (values_in model)) (formulas_in (first_from (k + 1) assertions))) h in
           (λ e. parts.0, parts.1)
       by (suc n) h = (λ e. absurd (omega (arith, e)), h)
 

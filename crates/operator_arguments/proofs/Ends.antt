@@ -1,9 +1,7 @@
--- Lists of one, two or three items, and lists read item by item, from their ends.
-use Rattle.std.proofs.Common.{◌≡◌, List, [], ◌∷◌, ◌++◌, length, Result, Ok, Err, refl, ap, sym, append_assoc, ◌≢◌, arith}
-use Rattle.mbqi_values.specs.declared.fault.FaultKind.{FaultKind}
+-- Lists of one, two or three items, from their ends.
+use Rattle.std.proofs.Common.{◌≡◌, List, [], ◌∷◌, ◌++◌, length, Ok, Err, refl, ◌≢◌, arith}
 use Rattle.mbqi_values.specs.declared.fault.FaultKind.TheVariants.{WrongCount}
 use Rattle.smtlib_terms.specs.Names.{◌>>=◌}
-use Rattle.smtlib_terms.specs.Steps.{behind}
 use Rattle.operator_arguments.specs.Counts.{pair_of, sole_of, triple_of}
 
 pub sole_alone : {A : Type 0} (rest : List A) (a : A) → length rest ≡ 0 → sole_of (rest ++ a ∷ []) ≡ Ok a
@@ -29,8 +27,3 @@ triple_end (a ∷ b ∷ d ∷ []) c = refl
 triple_end (a ∷ b ∷ d ∷ e ∷ rest) c = refl
 
 pub ruleset end_laws = (sole_alone, sole_more, pair_end, triple_end)
-
--- one more item was read
-pub behind_next : {A : Type 0} (before : List A) (x : A) (rest : Result (List A) FaultKind) → behind before (rest >>= (λ xs. Ok (x ∷ xs))) ≡ behind (before ++ x ∷ []) rest
-behind_next before x (Ok xs) = ap (λ (ys : List _). Ok ys) (sym (append_assoc before (x ∷ []) xs))
-behind_next before x (Err kind) = refl

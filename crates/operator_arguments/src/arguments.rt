@@ -68,7 +68,7 @@ pub fn triple(
 }
 
 /// The arguments as formulas.
-#[tactic(auto, using(std::proofs::lemmas::Grind::common_steps, crate::proofs::Ends::behind_next))]
+#[tactic(auto, using(std::proofs::lemmas::Grind::common_steps, smtlib_terms::proofs::Steps::behind_next))]
 pub fn as_formulas(alloc: Global, args: Meanings) -> Result<Sequence<MeasuredFormula>, ReadError>
     ensures { Answers result (as_formulas (meanings_of args)) }
 {
@@ -84,7 +84,7 @@ pub fn as_formulas(alloc: Global, args: Meanings) -> Result<Sequence<MeasuredFor
 }
 
 /// The arguments as integers.
-#[tactic(auto, using(std::proofs::lemmas::Grind::common_steps, crate::proofs::Ends::behind_next))]
+#[tactic(auto, using(std::proofs::lemmas::Grind::common_steps, smtlib_terms::proofs::Steps::behind_next))]
 pub fn as_integers(alloc: Global, args: Meanings) -> Result<Sequence<MeasuredTerm>, ReadError>
     ensures { Answers result (as_integers (meanings_of args)) }
 {

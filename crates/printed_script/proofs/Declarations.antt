@@ -13,14 +13,16 @@ use Rattle.smtlib_terms.specs.Declaring.{Declarations, declarable, function_decl
 use Rattle.smtlib_terms.specs.Names.{◌>>=◌, is_array, sort_meant}
 use Rattle.smtlib_terms.specs.Words.{is_one_of, is_reserved, is_text}
 use Rattle.smtlib_terms.proofs.SortTrees.{sort_meant-Symbol}
+use Rattle.smtlib_terms.proofs.Texts.{other_text}
 use Rattle.printed_trees.specs.InForm.{IsVariableSort}
 use Rattle.printed_trees.specs.Names.{AreToldApart, IsName}
 use Rattle.printed_trees.specs.Scripts.{IsRanked, IsResultSort}
 use Rattle.printed_trees.specs.Trees.{sort_tree}
-use Rattle.printed_trees.proofs.Lists.{distinct_head, distinct_tail, other_text}
+use Rattle.printed_trees.proofs.Lists.{distinct_head, distinct_tail}
 use Rattle.printed_trees.proofs.ReadSorts.{array_sort_means, variable_sort_means}
 
-get_middle : {X : Type 0} (xs : List X) (x : X) (ys : List X) → slice_get (xs ++ x ∷ ys) (length xs) ≡ Some x
+-- the element in the middle of a list
+pub get_middle : {X : Type 0} (xs : List X) (x : X) (ys : List X) → slice_get (xs ++ x ∷ ys) (length xs) ≡ Some x
 get_middle [] x ys = refl
 get_middle (y ∷ xs) x ys = get_middle xs x ys
 

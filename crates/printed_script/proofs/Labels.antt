@@ -1,5 +1,5 @@
 -- The label of an asserted S-expression.
-use Rattle.std.proofs.Common.{◌≡◌, ℕ, suc, ℤ, pos, negsuc, Bool, true, false, List, [], ◌∷◌, map, Option, None, Some, slice_get, Ok, codes, refl, ap, ◌∙◌, arith, ◌++◌, length}
+use Rattle.std.proofs.Common.{◌≡◌, ℕ, suc, ℤ, pos, negsuc, Bool, true, false, List, [], ◌∷◌, map, Option, None, Some, Ok, codes, refl, ap, ◌∙◌, arith, ◌++◌, length}
 use Rattle.std.specs.List.{list_any}
 use Rattle.mbqi_terms.specs.declared.formula.Formula.{Formula}
 use Rattle.mbqi_terms.specs.declared.script.Assertion.{Assertion}
@@ -15,14 +15,15 @@ use Rattle.smtlib_printer.specs.Names.{name_in, variable_text}
 use Rattle.smtlib_terms.specs.Reading.{trees_in}
 use Rattle.smtlib_terms.specs.Words.{is_reserved_word, is_text}
 use Rattle.smtlib_terms.proofs.TermTrees.{trees_in-List, trees_in-Numeral, trees_in-Symbol}
+use Rattle.smtlib_terms.proofs.Texts.{other_text}
 use Rattle.printed_trees.specs.InForm.{HasSort, IsFormula}
 use Rattle.printed_trees.specs.Names.{AreToldApart}
 use Rattle.printed_trees.specs.Scripts.{DifferInLabels}
 use Rattle.printed_trees.specs.Trees.{applied_tree, formula_tree, labelled_tree, number_tree, term_tree, truth_tree}
-use Rattle.printed_trees.proofs.Lists.{other_text}
 use Rattle.printed_trees.proofs.Scopes.{function_found}
 use Rattle.printed_trees.proofs.TreeLaws as tree_law
 use Rattle.printed_trees.proofs.Words.{no_word}
+use Rattle.printed_script.proofs.Declarations.{get_middle}
 
 -- no attributes
 abbrev HasNone : Sexpr → Type 0
@@ -94,10 +95,6 @@ label_is script marks told (Some label) f is =
 labelled_other : (label : List ℕ) (other : Option (List ℕ)) → ((o : List ℕ) → other ≡ Some o → is_text o label ≡ false) → is_labelled label other ≡ false
 labelled_other label None differ = refl
 labelled_other label (Some o) differ = differ o refl
-
-get_middle : {X : Type 0} (xs : List X) (x : X) (ys : List X) → slice_get (xs ++ x ∷ ys) (length xs) ≡ Some x
-get_middle [] x ys = refl
-get_middle (y ∷ xs) x ys = get_middle xs x ys
 
 not_labelled : (label : List ℕ) (done : List Assertion) (a : Assertion) (rest : List Assertion) → a.label ≡ Some label → DifferInLabels (done ++ a ∷ rest) → list_any (λ (b : Assertion). is_labelled label b.label) done ≡ false
 not_labelled label [] a rest own differ = refl

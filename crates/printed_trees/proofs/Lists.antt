@@ -2,25 +2,12 @@
 use Rattle.std.proofs.Common.{◌≡◌, ◌≢◌, ◌<◌, ℕ, zero, suc, ◌+◌, Bool, true, false, cond, not, ltb, List, [], ◌∷◌, map, length, Some, None, All, slice_get, refl, sym, ap, ◌∙◌, subst, arith}
 use Rattle.std.specs.List.{prefix_len}
 use Rattle.std.proofs.lemmas.Bool.Decides.{nat_tests}
-use Rattle.std.proofs.lemmas.Slice.Eq.{bytes_eq-Decides}
 use Rattle.std.proofs.lemmas.Option.{slice_get_within, get_or_from_slice_get}
 use Rattle.mbqi_terms.specs.Distinct.{AreDistinct}
 use Rattle.mbqi_terms.specs.declared.script.Function.{Function}
 use Rattle.smtlib_terms.specs.Names.{function_named, place_of}
 use Rattle.smtlib_terms.specs.Words.{is_text}
-
-pub same_text : (a b : List ℕ) → is_text a b ≡ true → a ≡ b
-same_text a b = (bytes_eq-Decides a b).0
-
-pub own_text : (a : List ℕ) → is_text a a ≡ true
-own_text a = (bytes_eq-Decides a a).1 refl
-
-pub other_text : (a b : List ℕ) → a ≢ b → is_text a b ≡ false
-other_text a b differ = go (is_text a b) refl
-  where
-    go : (t : Bool) → is_text a b ≡ t → is_text a b ≡ false
-    go true e = absurd (differ (same_text a b e))
-    go false e = e
+use Rattle.smtlib_terms.proofs.Texts.{other_text, own_text}
 
 -- the tail of such a list is such a list, and its head isn't in it
 pub distinct_tail : {X : Type 0} (x : X) (xs : List X) → AreDistinct (x ∷ xs) → AreDistinct xs

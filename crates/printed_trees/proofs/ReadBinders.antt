@@ -17,15 +17,15 @@ use Rattle.smtlib_terms.specs.declared.names.Variable.{Variable}
 use Rattle.smtlib_terms.specs.declared.word.Word.{Word}
 use Rattle.smtlib_terms.specs.Names.{◌>>=◌}
 use Rattle.smtlib_terms.specs.Reading as reading
-use Rattle.smtlib_terms.specs.Reading.{are_binders, bindable, binder_name, binder_sort, binders_of, body_read, first_text, is_binder, is_pair, part_of, quantifiable, quantified, quantified_meant, quantifier_binders, quantifier_read, second_sort, trees_in}
+use Rattle.smtlib_terms.specs.Reading.{are_binders, bindable, binder_name, binder_sort, binders_of, body_read, first_text, is_binder, is_pair, part_of, quantifiable, quantified, quantified_meant, quantifier_binders, quantifier_read, second_sort}
 use Rattle.smtlib_terms.specs.Words.{is_one_of, is_reserved, is_reserved_word, is_text}
 use Rattle.smtlib_terms.proofs.TermTrees.{trees_in-List}
+use Rattle.smtlib_terms.proofs.Texts.{other_text}
 use Rattle.printed_trees.specs.InForm.{AreBound, ArePlaced, IsVariableSort}
 use Rattle.printed_trees.specs.Means.{Means}
 use Rattle.printed_trees.specs.Names.{AreToldApart, bindings_of, signature_of}
 use Rattle.printed_trees.specs.Trees.{binder_tree, binders_tree, sort_tree, variable_tree}
 use Rattle.printed_trees.proofs.Decimals.{variables_differ}
-use Rattle.printed_trees.proofs.Lists.{other_text}
 use Rattle.printed_trees.proofs.ReadParts.{body_is_read}
 use Rattle.printed_trees.proofs.ReadSorts.{variable_sort_means}
 

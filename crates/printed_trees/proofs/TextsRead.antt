@@ -1,15 +1,13 @@
 -- A text of which each name may stand between bars is read as its S-expression, in any place.
-use Rattle.std.proofs.Common.{◌≡◌, ℕ, ◌+◌, ◌-◌, ◌<◌, ◌≤◌, Bool, true, false, cond, ◌&&◌, not, eqb, max, List, [], ◌∷◌, ◌++◌, map, length, drop, None, Some, codes, refl, sym, ap, ◌∙◌, subst, arith, append_assoc, length-append, ◌⊎◌, inl, inr}
+use Rattle.std.proofs.Common.{◌≡◌, ℕ, ◌+◌, ◌-◌, Bool, true, false, cond, ◌&&◌, not, List, [], ◌∷◌, ◌++◌, map, length, codes, refl, sym, ap, ◌∙◌, subst, arith, append_assoc, length-append, inl, inr}
 use Rattle.std.specs.List.{flat_map, list_all, AllByRecursion}
 use Rattle.std.proofs.Math.Seq.{drop-append_seam}
-use Rattle.std.proofs.lemmas.Bool.Decides.{nat_tests}
-use Rattle.mbqi_values.specs.declared.fault.FaultKind.TheVariants.{Unopened, TooDeep}
-use Rattle.sexpr_text.specs.Bytes.{class_of, is_quoted_content, is_symbol_byte}
+use Rattle.sexpr_text.specs.Bytes.{is_quoted_content}
 use Rattle.sexpr_text.specs.Depth.{depth_of, depth_layer, IsShallow}
 use Rattle.sexpr_text.specs.Forms.{spelled, BeginAt, EndAt, SpellForms, HaveForms}
 use Rattle.sexpr_text.specs.Front.{front_of}
 use Rattle.sexpr_text.specs.Legal.{is_legal}
-use Rattle.sexpr_text.specs.Lexis.{Placed, Lexed, Ended, Next, lexed_after, lexed_from, tokens_of, fault_from, open_limit}
+use Rattle.sexpr_text.specs.Lexis.{Placed, Ended, Next, lexed_from, open_limit}
 use Rattle.sexpr_text.specs.Text.{is_simple, text_of}
 use Rattle.sexpr_text.specs.declared.token.Front.TheVariants as front
 use Rattle.sexpr_text.specs.declared.token.Token.{Token}
@@ -21,10 +19,10 @@ use Rattle.sexpr_text.specs.declared.tree.Sexpr.TheOpen.{Sexpr-F}
 use Rattle.sexpr_text.specs.declared.tree.Sexpr.TheVariants as sexpr
 use Rattle.sexpr_text.proofs.Fronts.{IsDelimited, bars_front}
 use Rattle.sexpr_text.proofs.Legality.{legal-Symbol}
-use Rattle.sexpr_text.proofs.ReadBack.{AreFaultless, TextHas, before, depth-List, depths, tree_back}
+use Rattle.sexpr_text.proofs.ReadBack.{depth-List, depths, tree_back}
 use Rattle.sexpr_text.proofs.Soundness.{token_of, map-append, ends_with}
 use Rattle.sexpr_text.proofs.Spelling.{spelled-List, symbol_is_atom}
-use Rattle.sexpr_text.proofs.Turns.{behind_first}
+use Rattle.sexpr_text.proofs.Tokens.{AreFaultless, TextHas, at_line_end, atom_faultless, atom_tokens, before, before-append, blank_first, both_faultless, close_first, delimits, have_forms, lexed-end, line_first, list_faultless, open_first, within_limit}
 use Rattle.smtlib_printer.specs.Names.{name_text}
 use Rattle.smtlib_printer.specs.Text.{list_text, spaced, spaced_rest}
 use Rattle.smtlib_terms.specs.Words.{is_reserved_word}
@@ -44,17 +42,6 @@ pub written_as : (text : List ℕ) (t : Sexpr) → is_legal t ≡ true → text_
 written_as text t legal e = subst (λ (x : List ℕ). IsTextOf x t) e (λ at rest ends. let back = tree_back t legal at rest ends in record { has = back.has; begins = back.begins; ends = back.ends })
 
 -- a symbol between bars
-atom_tokens : (at : ℕ) (token : Token) (len : ℕ) (bytes : List ℕ) → 0 < len → 0 < length bytes → front_of bytes ≡ front.Token token len →
-    lexed_from 0 at bytes ≡ Next (record { token = token; from = at; to = at + len }) (lexed_from 0 (at + len) (drop len bytes))
-unfolding lexed_from
-atom_tokens at token len [] some any is = absurd (omega arith)
-atom_tokens at token len (b ∷ bs) some any is =
-    ap (λ f. lexed_after at f (λ n. lexed_from (n - 1) (at + 1) bs)) is ∙ ap (Next (record { token = token; from = at; to = at + len })) (behind_first len at b bs some)
-
-atom_faultless : (t : Sexpr) (from to : ℕ) → AreFaultless (record { token = Atom t; from = from; to = to } ∷ []) 0
-unfolding fault_from
-atom_faultless t from to rest d o within = (o, refl)
-
 barred : (name : List ℕ) → list_all is_quoted_content name ≡ true → IsTextOf (codes "|" ++ (name ++ codes "|")) (sexpr.Symbol name)
 barred name legal at rest ends =
     let text = codes "|" ++ (name ++ codes "|") in
@@ -85,31 +72,6 @@ name_by name false reserved legal e = barred name legal
 pub name_reads : (name : List ℕ) → list_all is_quoted_content name ≡ true → IsTextOf (name_text name) (sexpr.Symbol name)
 name_reads name legal = name_by name (is_simple name) (is_reserved_word name) legal refl
 
--- one byte that is a token or white space
-blank_first : (at : ℕ) (bytes : List ℕ) → lexed_from 0 at (32 ∷ bytes) ≡ lexed_from 0 (at + 1) bytes
-unfolding lexed_from front_of class_of
-blank_first at bytes = refl
-
-open_first : (at : ℕ) (bytes : List ℕ) → lexed_from 0 at (40 ∷ bytes) ≡ Next (record { token = Open; from = at; to = at + 1 }) (lexed_from 0 (at + 1) bytes)
-unfolding lexed_from front_of class_of
-open_first at bytes = refl
-
-close_first : (at : ℕ) (bytes : List ℕ) → lexed_from 0 at (41 ∷ bytes) ≡ Next (record { token = Close; from = at; to = at + 1 }) (lexed_from 0 (at + 1) bytes)
-unfolding lexed_from front_of class_of
-close_first at bytes = refl
-
-line_first : (at : ℕ) (bytes : List ℕ) → lexed_from 0 at (10 ∷ bytes) ≡ lexed_from 0 (at + 1) bytes
-unfolding lexed_from front_of class_of
-line_first at bytes = refl
-
-delimits : (b : ℕ) (bytes : List ℕ) → (b ≡ 32) ⊎ (b ≡ 41) → IsDelimited (b ∷ bytes)
-unfolding is_symbol_byte
-delimits b bytes is = record { no_symbol = grind (arith, nat_tests); no_quote = grind (arith, nat_tests) }
-
-at_line_end : (bytes : List ℕ) → IsDelimited (10 ∷ bytes)
-unfolding is_symbol_byte
-at_line_end bytes = record { no_symbol = refl; no_quote = refl }
-
 -- the texts of a list's parts
 abbrev pub AllTexts : List (List ℕ) → List Sexpr → Type 0
 AllTexts [] [] = Unit {0}
@@ -120,16 +82,6 @@ AllTexts (text ∷ texts) (t ∷ ts) = IsTextOf text t × AllTexts texts ts
 delimits_more : (texts : List (List ℕ)) (rest : List ℕ) → IsDelimited rest → IsDelimited (spaced_rest texts ++ rest)
 delimits_more [] rest ends = ends
 delimits_more (text ∷ texts) rest ends = delimits 32 _ (inl refl)
-
-before-append : (xs ys : List Placed) (rest : Lexed) → before (xs ++ ys) rest ≡ before xs (before ys rest)
-before-append [] ys rest = refl
-before-append (x ∷ xs) ys rest = ap (Next x) (before-append xs ys rest)
-
-both_faultless : (xs ys : List Placed) (m n : ℕ) → AreFaultless xs m → AreFaultless ys n → AreFaultless (xs ++ ys) (max m n)
-both_faultless xs ys m n first second rest d o within =
-    let one = first (before ys rest) d o (omega arith) in
-    let two = second rest d one.0 (omega arith) in
-    (two.0, ap (fault_from d o) (before-append xs ys rest) ∙ one.1 ∙ two.1)
 
 more_back : (texts : List (List ℕ)) (ts : List Sexpr) → AllTexts texts ts → (at : ℕ) (rest : List ℕ) → IsDelimited rest → TextHas (spaced_rest texts) (flat_map spelled ts) (depths ts) at rest
 more_back [] [] all at rest ends = record { own = []; lexes = ap (λ n. lexed_from 0 n rest) (omega arith); tokens_are = refl; faultless = λ lx d o within. (o, refl) }
@@ -164,26 +116,6 @@ parts_back (text ∷ texts) (t ∷ ts) all at rest ends =
       tokens_are = map-append one.has.own two.own ∙ ap (λ us. us ++ map token_of two.own) one.has.tokens_are ∙ ap (λ us. spelled t ++ us) two.tokens_are;
       faultless = both_faultless one.has.own two.own (depth_of t) (depths ts) one.has.faultless two.faultless;
     }
-
-below_limit : (d depth : ℕ) → d + (1 + depth) ≤ open_limit → eqb d open_limit ≡ false
-below_limit d depth within = grind (arith, nat_tests)
-
-some_open : (d : ℕ) → eqb (d + 1) 0 ≡ false
-some_open d = grind (arith, nat_tests)
-
-list_faultless : (inner : List Placed) (depth a b c e : ℕ) → AreFaultless inner depth →
-    AreFaultless (record { token = Open; from = a; to = b } ∷ (inner ++ record { token = Close; from = c; to = e } ∷ [])) (1 + depth)
-unfolding fault_from
-list_faultless inner depth a b c e parts rest d o within =
-    let close : Placed = record { token = Close; from = c; to = e } in
-    let o' = cond (eqb d 0) a o in
-    let one = parts (Next close rest) (d + 1) o' (omega arith) in (
-      one.0,
-      ap (λ t. cond t (Some (record { at = a; kind = TooDeep })) (fault_from (d + 1) o' (before (inner ++ close ∷ []) rest))) (below_limit d depth within)
-          ∙ ap (fault_from (d + 1) o') (before-append inner (close ∷ []) rest) ∙ one.1
-          ∙ ap (λ t. cond t (Some (record { at = c; kind = Unopened })) (fault_from (d + 1 - 1) one.0 rest)) (some_open d)
-          ∙ ap (λ n. fault_from n one.0 rest) (omega arith),
-    )
 
 list_len : (texts : List (List ℕ)) (at : ℕ) → at + 1 + length (spaced texts) + 1 ≡ at + length (list_text texts)
 list_len texts at = omega (arith, length-append (spaced texts) (41 ∷ []))
@@ -220,13 +152,6 @@ pub record LinesBack (texts : List (List ℕ)) (ts : List Sexpr) (at : ℕ) : Ty
   pub spelled : SpellForms own forms
   pub trees : map (λ (form : Form). form.tree) forms ≡ ts
 
-lexed-end : (at : ℕ) → lexed_from 0 at [] ≡ Ended
-unfolding lexed_from
-lexed-end at = refl
-
-within_limit : (own : List Placed) (depth : ℕ) → depth ≤ open_limit → AreFaultless own depth → AreFaultless own open_limit
-within_limit own depth small faultless rest d o within = faultless rest d o (omega arith)
-
 lines_back : (texts : List (List ℕ)) (ts : List Sexpr) → AllTexts texts ts → AllByRecursion IsShallow ts → (at : ℕ) → LinesBack texts ts at
 lines_back [] [] all shallow at = record { own = []; forms = []; lexes = lexed-end at; faultless = λ rest d o within. (o, refl); spelled = refl; trees = refl }
 lines_back [] (t ∷ ts) all shallow at = absurd all
@@ -246,22 +171,11 @@ lines_back (text ∷ texts) (t ∷ ts) all shallow at =
       trees = ap (λ (us : List Sexpr). t ∷ us) more.trees;
     }
 
-tokens-before : (own : List Placed) → tokens_of (before own Ended) ≡ own
-tokens-before [] = refl
-tokens-before (placed ∷ own) = ap (λ more. placed ∷ more) (tokens-before own)
-
-none_open : (o : ℕ) → fault_from 0 o Ended ≡ None
-unfolding fault_from
-none_open o = refl
-
 -- the forms of such lines
 pub lines_read : (texts : List (List ℕ)) (ts : List Sexpr) → AllTexts texts ts → AllByRecursion IsShallow ts → (forms : List Form) × HaveForms (lines_text texts) forms × (map (λ (form : Form). form.tree) forms ≡ ts)
 lines_read texts ts all shallow =
     let back = lines_back texts ts all shallow 0 in (
       back.forms,
-      record {
-        faultless = ap (fault_from 0 0) back.lexes ∙ (back.faultless Ended 0 0 (omega arith)).1 ∙ none_open _;
-        spelled = subst (λ tokens. SpellForms tokens back.forms) (sym (ap tokens_of back.lexes ∙ tokens-before back.own)) back.spelled;
-      },
+      have_forms (lines_text texts) back.own open_limit back.forms back.lexes back.faultless (omega arith) back.spelled,
       back.trees,
     )

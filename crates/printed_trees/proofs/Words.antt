@@ -2,11 +2,11 @@
 use Rattle.std.proofs.Common.{◌≡◌, ℕ, Bool, true, false, ◌||◌, List, [], ◌∷◌, None, refl, ap}
 use Rattle.std.specs.Prelude.{codes}
 use Rattle.std.specs.List.{list_all}
+use Rattle.std.proofs.lemmas.Bool.{and_parts}
 use Rattle.smtlib_terms.specs.Words.{arithmetic_words, binder_words, connective_words, is_reserved, is_reserved_word, is_text, operation_words, relation_words, word_among, word_of}
 use Rattle.smtlib_terms.specs.declared.word.Word.{Word}
 use Rattle.smtlib_terms.specs.declared.word.Word.TheVariants as word
-use Rattle.sexpr_text.proofs.Legality.{both}
-use Rattle.printed_trees.proofs.Lists.{other_text}
+use Rattle.smtlib_terms.proofs.Texts.{other_text}
 
 pub not_word : word_of (codes "not") ≡ word.Not
 unfolding word_of
@@ -70,7 +70,7 @@ are_reserved entries = list_all (λ (entry : List ℕ × Word). is_reserved_word
 none_among : (entries : List (List ℕ × Word)) (name : List ℕ) → is_reserved_word name ≡ false → are_reserved entries ≡ true → word_among entries name ≡ None
 none_among [] name free reserved = refl
 none_among (entry ∷ entries) name free reserved =
-    let parts = both (is_reserved_word entry.0) (are_reserved entries) reserved in
+    let parts = and_parts (is_reserved_word entry.0) (are_reserved entries) reserved in
     rw (no_word name entry.0 free parts.0) (none_among entries name free parts.1)
 
 connectives_reserved : are_reserved connective_words ≡ true

@@ -1,6 +1,6 @@
 -- Instances at terms of the pool, and those of rules without variables.
-use Rattle.std.proofs.Common.{◌≡◌, ℕ, zero, suc, ◌+◌, ◌<◌, Bool, true, false, List, [], ◌∷◌, ◌++◌, length, map, refl, sym, ap, subst, ◌∙◌, inl, inr, arith, cond, drop}
-use Rattle.std.specs.Prelude.{◌⊎◌, ◌≤◌, All, Contains, Some, slice_get, slice_index_or}
+use Rattle.std.proofs.Common.{◌≡◌, ℕ, zero, suc, ◌+◌, Bool, true, false, List, [], ◌∷◌, ◌++◌, length, refl, sym, ap, subst, ◌∙◌, inl, inr, arith, cond}
+use Rattle.std.specs.Prelude.{◌⊎◌, All, Contains, Some, slice_get}
 use Rattle.std.specs.List.{AllByRecursion}
 use Rattle.std.proofs.lemmas.List.Elements.{All-head, All-tail, All-nil, All-cons}
 use Rattle.std.proofs.lemmas.Option.{slice_get_cases, slice_get_read}
@@ -17,21 +17,9 @@ use Rattle.rule_form.specs.Instance.{IsInstance}
 use Rattle.rule_form.specs.Rules.{IsChoice, assertion_at, clause_at, clause_of, first_from, first_with, formula_of, line_of, lines_of, pool_terms, term_at, variables_of}
 use Rattle.rule_form.specs.declared.choice.Choice.{Choice}
 use Rattle.rule_form.proofs.Putting.{closed_clause, ground_clause}
+use Rattle.rule_form.proofs.Rests.{AtFrom, from_first, from_here, from_next}
 use Rattle.rule_form.proofs.RuleInstances.{rule_instance}
 use Rattle.rule_form.proofs.Shapes.{rule_clause, rule_variables}
-
--- the rest of a list, whose first element has number k in the whole
-abbrev AtFrom : {X : Type 0} → List X → ℕ → List X → Type 0
-AtFrom {X} whole k rest = (i : ℕ) (x : X) → slice_get rest i ≡ Some x → slice_get whole (k + i) ≡ Some x
-
-from_next : {X : Type 0} (whole : List X) (k : ℕ) (x : X) (rest : List X) → AtFrom whole k (x ∷ rest) → AtFrom whole (k + 1) rest
-from_next whole k x rest at i y e = let n : k + suc i ≡ k + 1 + i = omega arith in subst (λ j. slice_get whole j ≡ Some y) n (at (suc i) y e)
-
-from_here : {X : Type 0} (whole : List X) (k : ℕ) (x : X) (rest : List X) → AtFrom whole k (x ∷ rest) → slice_get whole k ≡ Some x
-from_here whole k x rest at = let n : k + 0 ≡ k = omega arith in subst (λ j. slice_get whole j ≡ Some x) n (at 0 x refl)
-
-from_first : {X : Type 0} (whole : List X) → AtFrom whole 0 whole
-from_first whole i x e = let n : i ≡ 0 + i = omega arith in subst (λ j. slice_get whole j ≡ Some x) n e
 
 -- each term of the pool is a constant or the seed
 constant_there : (whole : List Function) (f : ℕ) (functions : List Function) → AtFrom whole f functions

@@ -1,4 +1,5 @@
 pub mod Putting
+pub mod Rests
 pub mod Shapes
 pub mod RuleInstances
 pub mod Chosen

@@ -1,6 +1,5 @@
 -- What an assertion of the profile is made of.
-use Rattle.std.proofs.Common.{◌≡◌, ℕ, zero, suc, ◌+◌, List, [], ◌∷◌, length, refl, sym, ap, subst, ◌∙◌, inl, inr, arith, rules}
-use Rattle.std.specs.Prelude.{◌⊎◌}
+use Rattle.std.proofs.Common.{◌≡◌, ℕ, zero, suc, ◌+◌, List, length, refl, sym, ap, ◌∙◌, inl, inr}
 use Rattle.mbqi_terms.specs.declared.formula.Formula.{Formula}
 use Rattle.mbqi_terms.specs.declared.formula.Formula.TheBlock.{hidden-the_row-Formula-0, hidden-the_row-Formula-1}
 use denote.Hole.Carrier.{hidden}
@@ -30,7 +29,7 @@ clause_not f = refl
 clause_any : (fs : List Formula) → clause_of (formula.Any fs) ≡ formula.Any fs
 clause_any fs = refl
 
-variables_forall : (bs : List Binder) (f : Formula) → variables_of (formula.Forall bs f) ≡ length bs
+pub variables_forall : (bs : List Binder) (f : Formula) → variables_of (formula.Forall bs f) ≡ length bs
 variables_forall bs f = refl
 
 pub clause_forall : (bs : List Binder) (f : Formula) → clause_of (formula.Forall bs f) ≡ f

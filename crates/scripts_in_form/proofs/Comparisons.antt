@@ -1,6 +1,7 @@
 -- Comparisons over meanings that are placed one behind the other: each argument stands in several atoms.
 use Rattle.std.proofs.Common.{◌≡◌, ◌≤◌, ℕ, suc, ◌+◌, true, false, cond, leb, List, [], ◌∷◌, ◌++◌, length, map, Ok, Err, refl, ap, sym, subst, ◌∙◌, arith}
 use Rattle.std.specs.List.{list_any}
+use Rattle.std.proofs.lemmas.Bool.{or_parts}
 use Rattle.mbqi_values.specs.declared.fault.FaultKind.TheVariants.{QuantifierPlace, WrongCount, WrongSort}
 use Rattle.mbqi_terms.specs.declared.formula.Formula.{Formula}
 use Rattle.mbqi_terms.specs.declared.formula.Formula.TheVariants as formula
@@ -23,7 +24,7 @@ use Rattle.printed_trees.specs.InForm.{HasSort, IsArray, IsIndexSort}
 use Rattle.scripts_in_form.proofs.Connectives.{AreQuantifierFree, IsQuantifierFree, closed_by_test, enough, joined_placed, quantifier_free_placed}
 use Rattle.scripts_in_form.proofs.Placed.{AreMeanings, IsArrayOf, IsMeaning, IsPlaced, IsTermOf}
 use Rattle.scripts_in_form.proofs.SameSorts.{one_plain, same_sort}
-use Rattle.scripts_in_form.proofs.Steps.{neither, not_refused, passed, same_ok, stepped}
+use Rattle.scripts_in_form.proofs.Steps.{not_refused, passed, same_ok, stepped}
 use Rattle.scripts_in_form.proofs.Sums.{AreIntegers, integers_of}
 
 -- meanings that bind no variable, all of one sort
@@ -45,7 +46,7 @@ quantifier_free_meanings : (script : Script) (scope : List Binder) (next : ℕ) 
 quantifier_free_meanings script scope next s [] are sorts none = tt
 quantifier_free_meanings script scope next s (m ∷ ms) are sorts none =
     let sort = both (is_sort s (sort_of m)) (have_sort s ms) sorts in
-    let closed = neither (is_quantified_meaning m) (list_any is_quantified_meaning ms) none in
+    let closed = or_parts (is_quantified_meaning m) (list_any is_quantified_meaning ms) none in
     let own = closed_meaning m closed.0 in
     let here : next + variables_of m ≡ next = omega arith in (
       record { is = are.0; closed = own; sort = same_sort s (sort_of m) sort.0 },
@@ -131,7 +132,7 @@ compared script scope next relation free some (m ∷ n ∷ ms) f are is =
     let read = passed (leb 2 (length args)) (compared_by relation args) WrongCount f is in
     let sorted = passed (have_sort (sort_of m) (n ∷ ms)) (cond (list_any is_quantified_meaning args) (Err QuantifierPlace) (Ok (all_of (relation args)))) WrongSort f read.1 in
     let none = not_refused (list_any is_quantified_meaning args) (Ok (all_of (relation args))) QuantifierPlace f sorted.1 in
-    let closed = neither (is_quantified_meaning m) (list_any is_quantified_meaning (n ∷ ms)) none.0 in
+    let closed = or_parts (is_quantified_meaning m) (list_any is_quantified_meaning (n ∷ ms)) none.0 in
     let own = closed_meaning m closed.0 in
     let here : next + variables_of m ≡ next = omega arith in
     let first : IsQuantifierFreeMeaning script scope next (sort_of m) m = record { is = are.0; closed = own; sort = refl } in

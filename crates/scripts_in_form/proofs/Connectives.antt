@@ -1,6 +1,7 @@
 -- The connectives over meanings that are placed one behind the other.
 use Rattle.std.proofs.Common.{◌≡◌, ◌≤◌, ℕ, suc, ◌+◌, Bool, true, false, cond, leb, ltb, ◌==◌, ◌||◌, List, [], ◌∷◌, length, Result, Ok, Err, refl, ap, sym, subst, ◌∙◌, arith}
 use Rattle.std.specs.List.{list_any}
+use Rattle.std.proofs.lemmas.Bool.{or_parts}
 use Rattle.std.proofs.lemmas.Bool.Decides.{nat_tests}
 use Rattle.mbqi_values.specs.declared.fault.FaultKind.{FaultKind}
 use Rattle.mbqi_values.specs.declared.fault.FaultKind.TheVariants.{QuantifierPlace, Unsupported, WrongCount}
@@ -15,7 +16,7 @@ use Rattle.smtlib_terms.specs.Names.{◌>>=◌}
 use Rattle.smtlib_terms.specs.Operators.{as_formula, as_formulas, choice, choice_of, connective, exclusion, exclusion_of, implication, implication_of, implied_by, is_other_choice, joined, negated, negated_first, unlike}
 use Rattle.measured_terms.proofs.FormulaLaws as formula_measure
 use Rattle.scripts_in_form.proofs.Placed.{AreAllPlaced, AreMeanings, IsPlaced}
-use Rattle.scripts_in_form.proofs.Steps.{neither, not_refused, passed, stepped}
+use Rattle.scripts_in_form.proofs.Steps.{not_refused, passed, stepped}
 
 -- formulas among the meanings
 abbrev more_read : List Meaning → Formula → Result (List Formula) FaultKind
@@ -139,7 +140,7 @@ quantifier_free_placed script scope next (f ∷ fs) free =
 pub placed_quantifier_free : (script : Script) (scope : List Binder) (next : ℕ) (fs : List Formula) → AreAllPlaced script scope next fs → list_any is_quantified fs ≡ false → AreQuantifierFree script scope next fs
 placed_quantifier_free script scope next [] placed none = tt
 placed_quantifier_free script scope next (f ∷ fs) (AreAllPlaced.more_formulas s n h hs one rest) none =
-    let parts = neither (is_quantified f) (list_any is_quantified fs) none in
+    let parts = or_parts (is_quantified f) (list_any is_quantified fs) none in
     let closed = closed_by_test f parts.0 in
     let here : next + variables_in f ≡ next = omega arith in
     (record { placed = one; closed = closed }, placed_quantifier_free script scope next fs (subst (λ (at : ℕ). AreAllPlaced script scope at fs) here rest) parts.1)
@@ -173,7 +174,7 @@ three_chosen script scope next (c ∷ []) f placed is = cc
 three_chosen script scope next (c ∷ g ∷ []) f placed is = cc
 three_chosen script scope next (c ∷ g ∷ h ∷ []) f (AreAllPlaced.more_formulas s n d ds one (AreAllPlaced.more_formulas s' n' d' ds' two (AreAllPlaced.more_formulas s'' n'' d'' ds'' three none))) is =
     let test = not_refused (is_quantified c || false) (Ok (formula.Choose c g h)) QuantifierPlace f is in
-    let closed = closed_by_test c (neither (is_quantified c) false test.0).0 in
+    let closed = closed_by_test c (or_parts (is_quantified c) false test.0).0 in
     let same : formula.Choose c g h ≡ f = let made = test.1 in cc in
     let here : next + variables_in c ≡ next = omega arith in
     let third : next + variables_in c + variables_in g ≡ next + variables_in g = omega arith in

@@ -1,14 +1,14 @@
 -- Lists with one more item.
-use Rattle.std.proofs.Common.{◌≡◌, ◌≢◌, ℕ, zero, suc, Bool, true, false, List, [], ◌∷◌, ◌++◌, length, All, Some, Option, slice_get, refl, sym, ap, ◌∙◌, subst, ◌⊎◌, inl, inr}
-use Rattle.std.specs.List.{AllByRecursion, list_any}
+use Rattle.std.proofs.Common.{◌≡◌, ◌≢◌, ℕ, zero, suc, true, false, List, [], ◌∷◌, ◌++◌, length, All, Some, Option, slice_get, refl, sym, ap, ◌∙◌, subst, ◌⊎◌, inl, inr}
+use Rattle.std.specs.List.{AllByRecursion}
 use Rattle.std.proofs.lemmas.List.Elements.{All-from_recursion, recursion_from_All}
 use Rattle.mbqi_terms.specs.Distinct.{AreDistinct}
 use Rattle.mbqi_terms.specs.declared.script.Assertion.{Assertion}
 use Rattle.smtlib_terms.specs.Words.{is_one_of, is_text}
+use Rattle.smtlib_terms.proofs.Texts.{own_text}
 use Rattle.smtlib_decls.specs.Labels.{is_labelled, is_taken}
 use Rattle.printed_trees.specs.Scripts.{DifferInLabels}
-use Rattle.printed_trees.proofs.Lists.{own_text}
-use Rattle.scripts_in_form.proofs.Steps.{neither}
+use Rattle.printed_trees.proofs.Scopes.{none_passes}
 
 -- What all items have.
 each_more : {X : Type 0} (P : X → Type 0) (xs : List X) (x : X) → AllByRecursion P xs → P x → AllByRecursion P (xs ++ x ∷ [])
@@ -51,12 +51,6 @@ distinct_more : {X : Type 0} (xs : List X) (x : X) → AreDistinct xs → ((k : 
 distinct_more xs x distinct new i j y e f =
     apart_more (λ a b. a ≡ b) xs x (λ i j a b e f same. distinct i j b (e ∙ ap Some same) f)
     (λ k a e same. new k (e ∙ ap Some same)) (λ k a e same. new k (e ∙ ap Some (sym same))) i j y y e f refl
-
--- What no item passes.
-none_passes : {X : Type 0} (p : X → Bool) (xs : List X) (i : ℕ) (x : X) → list_any p xs ≡ false → slice_get xs i ≡ Some x → p x ≡ false
-none_passes p [] i x none e = cc
-none_passes p (y ∷ ys) zero x none e = let same : y ≡ x = cc in subst (λ z. p z ≡ false) same (neither (p y) (list_any p ys) none).0
-none_passes p (y ∷ ys) (suc i) x none e = none_passes p ys i x (neither (p y) (list_any p ys) none).1 e
 
 -- Names.
 name_absent : (names : List (List ℕ)) (name : List ℕ) → is_one_of names name ≡ false → (k : ℕ) → slice_get names k ≢ Some name

@@ -2,6 +2,7 @@
 use Rattle.std.proofs.Common.{◌≡◌, ◌≤◌, ℕ, suc, ◌^◌, Bool, true, false, not, ◌||◌, eqb, List, [], ◌∷◌, ◌++◌, length, map, All, Some, IfSome, Result, Ok, Err, slice_get, refl, sym, ap, ◌∙◌, subst, arith, ◌⊎◌, inl, inr, length-append}
 use Rattle.std.specs.Prelude.{if◌then◌else◌}
 use Rattle.std.specs.List.{AllByRecursion, list_all}
+use Rattle.std.proofs.lemmas.Bool.{and_parts, or_parts}
 use Rattle.std.proofs.lemmas.Bool.Decides.{nat_tests}
 use Rattle.std.proofs.lemmas.List.Elements.{All-from_recursion, All-nil}
 use Rattle.mbqi_values.specs.declared.fault.FaultKind.{FaultKind}
@@ -15,7 +16,6 @@ use Rattle.mbqi_terms.specs.declared.sort.Sort.{Sort}
 use Rattle.mbqi_terms.specs.declared.sort.Sort.TheVariants as sort
 use Rattle.sexpr_text.specs.declared.tree.Form.{Form}
 use Rattle.sexpr_text.specs.declared.tree.Sexpr.{Sexpr}
-use Rattle.sexpr_text.proofs.Legality.{both}
 use Rattle.smtlib_terms.specs.Declaring.{Declarations, formula_read, is_first_order, is_function}
 use Rattle.smtlib_terms.specs.Meaning.{depth_of_formula, variables_in}
 use Rattle.smtlib_terms.specs.Names.{is_array}
@@ -31,7 +31,6 @@ use Rattle.printed_trees.specs.Scripts.{DifferInLabels, IsInForm, IsRanked, IsRe
 use Rattle.scripts_in_form.proofs.CommandSteps.{IsLegalText, IsNamedSort, IsNewFunction, IsStep, command_steps, with_question}
 use Rattle.scripts_in_form.proofs.LegalNames.{IsLegalForm}
 use Rattle.scripts_in_form.proofs.OneMore.{all_more, get_before, labels_differ, names_differ}
-use Rattle.scripts_in_form.proofs.Steps.{neither}
 use Rattle.scripts_in_form.proofs.Placed.{IsFunction, IsPlaced}
 use Rattle.scripts_in_form.proofs.SortsRead.{sort_read_is}
 
@@ -111,7 +110,7 @@ named_sort_is script d s le is = sort_read_is script d.sorts is.tree s le is.rea
 variable_sorts : (script : Script) (d : Declarations) (ss : List Sort) → length d.sorts ≤ length script.sorts → AllByRecursion (IsNamedSort d) ss → list_all is_first_order ss ≡ true → AllByRecursion (IsVariableSort script) ss
 variable_sorts script d [] le are first = tt
 variable_sorts script d (s ∷ ss) le are first =
-    let parts = both (is_first_order s) (list_all is_first_order ss) first in
+    let parts = and_parts (is_first_order s) (list_all is_first_order ss) first in
     (variable_sort script s (named_sort_is script d s le are.0) parts.0, variable_sorts script d ss le are.1 parts.1)
 
 no_arguments : (args : List Sort) → eqb (length args) 0 ≡ true → args ≡ []
@@ -125,7 +124,7 @@ or_not false false e there = cc
 
 function_ranked : (script : Script) (d : Declarations) (f : Function) → length d.sorts ≤ length script.sorts → IsNewFunction d f → IsRanked script f
 function_ranked script d f le new =
-    let parts = both (list_all is_first_order f.args) ((eqb (length f.args) 0) || not (is_array f.result)) new.supported in
+    let parts = and_parts (list_all is_first_order f.args) ((eqb (length f.args) 0) || not (is_array f.result)) new.supported in
     record {
       args = All-from_recursion (IsVariableSort script) f.args (variable_sorts script d f.args le new.args parts.0);
       result = named_sort_is script d f.result le new.result;
@@ -138,7 +137,7 @@ more_names [] f = refl
 more_names (g ∷ fs) f = ap (λ (names : List (List ℕ)). g.name ∷ names) (more_names fs f)
 
 name_is_new : (d : Declarations) (name : List ℕ) → is_function d name ≡ false → is_one_of (map (λ (f : Function). f.name) d.functions) name ≡ false
-name_is_new d name new = sym (any_function d.functions name) ∙ (neither _ _ new).0
+name_is_new d name new = sym (any_function d.functions name) ∙ (or_parts _ _ new).0
 
 -- The names of a script that has the same ones.
 quantifier_free_named : (a b : Script) → a.sorts ≡ b.sorts → a.functions ≡ b.functions → AreNamed a → AreNamed b

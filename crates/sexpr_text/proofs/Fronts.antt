@@ -2,6 +2,7 @@
 use Rattle.std.proofs.Common.{◌≡◌, ℕ, suc, ◌+◌, ◌<◌, Bool, true, false, cond, not, ◌&&◌, List, [], ◌∷◌, ◌++◌, length, take, drop, get_or, eqb, ltb, None, Some, refl, sym, ap, ◌∙◌, subst, arith, one-add, length-append, length-drop, length-take-le, drop-cons, get_or-take, ◌||◌}
 use Rattle.std.specs.List.{list_all, position, position_or_len, prefix_len}
 use Rattle.std.specs.Char.{is_ascii_digit, is_ascii_hexdigit}
+use Rattle.std.proofs.lemmas.Bool.{and_parts}
 use Rattle.std.proofs.lemmas.Bool.Decides.{nat_tests}
 use Rattle.std.proofs.Math.Seq.{take-append_seam}
 use Rattle.std.proofs.lemmas.List.{take-append-drop}
@@ -17,7 +18,7 @@ use Rattle.sexpr_text.specs.declared.class.Class.TheVariants as class
 use Rattle.sexpr_text.specs.declared.tree.Sexpr.{Sexpr}
 use Rattle.sexpr_text.specs.declared.tree.Sexpr.TheVariants as sexpr
 use Rattle.sexpr_text.proofs.ByteSearch.{other_first, quote_first, undoubled-cons}
-use Rattle.sexpr_text.proofs.Legality.{both, all_more}
+use Rattle.sexpr_text.proofs.Legality.{all_more}
 
 -- what stands behind an atom's text belongs to no atom
 pub record IsDelimited (rest : List ℕ) : Type 0 where
@@ -28,7 +29,7 @@ prefix_is : (p : ℕ → Bool) (text rest : List ℕ) → list_all p text ≡ tr
 prefix_is p [] [] all ends = refl
 prefix_is p [] (b ∷ bs) all ends = rw ends refl
 prefix_is p (b ∷ text) rest all ends =
-    let parts = both (p b) (list_all p text) all in rw parts.0 (ap (λ n. 1 + n) (prefix_is p text rest parts.1 ends) ∙ one-add (length text))
+    let parts = and_parts (p b) (list_all p text) all in rw parts.0 (ap (λ n. 1 + n) (prefix_is p text rest parts.1 ends) ∙ one-add (length text))
 
 front_part : (p : ℕ → Bool) (text rest : List ℕ) → list_all p text ≡ true → p (get_or rest 0 0) ≡ false → take (prefix_len p (text ++ rest)) (text ++ rest) ≡ text
 front_part p text rest all ends = ap (λ n. take n (text ++ rest)) (prefix_is p text rest all ends) ∙ take-append_seam text rest
@@ -65,14 +66,14 @@ pub numeral_front : (text rest : List ℕ) → is_numeral text ≡ true → IsDe
 unfolding is_numeral number_front
 numeral_front [] rest is ends = cc
 numeral_front (b ∷ bs) rest is ends =
-    let digits = (both _ _ (both _ _ is).1).0 in
-    front_is b (bs ++ rest) class.Digit (digit_class b (both _ _ digits).0)
+    let digits = (and_parts _ _ (and_parts _ _ is).1).0 in
+    front_is b (bs ++ rest) class.Digit (digit_class b (and_parts _ _ digits).0)
     ∙ ap number_front (word_is (b ∷ bs) rest (all_more is_ascii_digit is_symbol_byte digit_is_symbol (b ∷ bs) digits) ends)
     ∙ rw is refl
 
 first_some : (p : ℕ → Bool) (text : List ℕ) → ltb 0 (length text) ≡ true → list_all p text ≡ true → p (get_or text 0 0) ≡ true
 first_some p [] some all = cc
-first_some p (b ∷ bs) some all = (both (p b) (list_all p bs) all).0
+first_some p (b ∷ bs) some all = (and_parts (p b) (list_all p bs) all).0
 
 radix_is : (is_digit : ℕ → Bool) (tree : Sexpr) (text : List ℕ) → ltb 0 (length text) ≡ true → list_all is_digit text ≡ true → radix_front is_digit tree text ≡ atom tree (length text + 2)
 unfolding radix_front
@@ -102,15 +103,15 @@ pub simple_front : (text rest : List ℕ) → is_simple text ≡ true → IsDeli
 unfolding is_simple
 simple_front [] rest is ends = cc
 simple_front (b ∷ bs) rest is ends =
-    let parts = both _ _ (both _ _ is).1 in
-    front_is b (bs ++ rest) class.Symbol (symbol_class b (both _ _ parts.0).0 (negated _ parts.1))
+    let parts = and_parts _ _ (and_parts _ _ is).1 in
+    front_is b (bs ++ rest) class.Symbol (symbol_class b (and_parts _ _ parts.0).0 (negated _ parts.1))
     ∙ ap (λ word. atom (sexpr.Symbol word) (length word)) (word_is (b ∷ bs) rest parts.0 ends)
 
 -- content that is allowed has no stray byte
 all_prefix : (p : ℕ → Bool) (text : List ℕ) → list_all p text ≡ true → prefix_len (λ b. not (not (p b))) text ≡ length text
 all_prefix p [] all = refl
 all_prefix p (b ∷ bs) all =
-    let parts = both (p b) (list_all p bs) all in rw parts.0 (ap (λ n. 1 + n) (all_prefix p bs parts.1) ∙ one-add (length bs))
+    let parts = and_parts (p b) (list_all p bs) all in rw parts.0 (ap (λ n. 1 + n) (all_prefix p bs parts.1) ∙ one-add (length bs))
 
 not_below : (n : ℕ) → ltb n n ≡ false
 not_below n = grind (arith, nat_tests)
@@ -130,7 +131,7 @@ enclosed_is allows kind text b rest tree all =
 
 not_bar : (b : ℕ) → is_quoted_content b ≡ true → not (is_bar b) ≡ true
 unfolding is_quoted_content
-not_bar b is = (both _ _ (both _ _ is).1).1
+not_bar b is = (and_parts _ _ (and_parts _ _ is).1).1
 
 pub bars_front : (text rest : List ℕ) → list_all is_quoted_content text ≡ true → front_of (124 ∷ (text ++ 124 ∷ rest)) ≡ atom (sexpr.Symbol text) (length text + 2)
 unfolding front_of class_of quoted_front
@@ -160,7 +161,7 @@ undoubled-doubled (b ∷ text) =
 doubled_all : (p : ℕ → Bool) (text : List ℕ) → list_all p text ≡ true → list_all p (doubled text) ≡ true
 doubled_all p [] all = refl
 doubled_all p (b ∷ text) all =
-    let parts = both (p b) (list_all p text) all in
+    let parts = and_parts (p b) (list_all p text) all in
     elim (is_quote b) as (λ t. list_all p (cond t (b ∷ b ∷ []) (b ∷ []) ++ doubled text) ≡ true) [
       | true ↦ rw parts.0 (doubled_all p text parts.1)
       | false ↦ rw parts.0 (doubled_all p text parts.1)
@@ -220,11 +221,11 @@ decimal_parts : (text : List ℕ) → is_decimal text ≡ true → DecimalParts 
 unfolding is_decimal is_fraction is_numeral
 decimal_parts text is =
     let k = position_or_len is_point text in
-    let parts = both (is_numeral (take k text)) (is_fraction (drop k text)) is in
-    let whole = both _ _ parts.0 in
-    let fraction = both _ _ parts.1 in
+    let parts = and_parts (is_numeral (take k text)) (is_fraction (drop k text)) is in
+    let whole = and_parts _ _ parts.0 in
+    let fraction = and_parts _ _ parts.1 in
     let lt = long_enough text k fraction.0 in
-    decimal_at text k lt (passes_at_first is_point text 0 lt) whole.0 (both _ _ whole.1).0 fraction.1
+    decimal_at text k lt (passes_at_first is_point text 0 lt) whole.0 (and_parts _ _ whole.1).0 fraction.1
 
 pub decimal_front : (text rest : List ℕ) → is_decimal text ≡ true → IsDelimited rest → front_of (text ++ rest) ≡ atom (sexpr.Decimal text) (length text)
 unfolding number_front
@@ -237,7 +238,7 @@ decimal_front (b ∷ bs) rest is ends =
 
 pub numeral_some : (text : List ℕ) → is_numeral text ≡ true → 0 < length text
 unfolding is_numeral
-numeral_some text is = is_below 0 (length text) (both (ltb 0 (length text)) _ is).0
+numeral_some text is = is_below 0 (length text) (and_parts (ltb 0 (length text)) _ is).0
 
 pub decimal_some : (text : List ℕ) → is_decimal text ≡ true → 0 < length text
 decimal_some [] is = let parts = decimal_parts [] is in let begins : is_ascii_digit 0 ≡ true = parts.begins in cc
@@ -245,4 +246,4 @@ decimal_some (b ∷ bs) is = omega arith
 
 pub simple_some : (text : List ℕ) → is_simple text ≡ true → 0 < length text
 unfolding is_simple
-simple_some text is = is_below 0 (length text) (both (ltb 0 (length text)) _ is).0
+simple_some text is = is_below 0 (length text) (and_parts (ltb 0 (length text)) _ is).0

@@ -2,6 +2,7 @@
 use Rattle.std.proofs.Common.{◌≡◌, ℕ, zero, suc, ◌+◌, ◌<◌, Bool, true, false, cond, not, ◌&&◌, List, [], ◌∷◌, length, take, drop, get_or, eqb, ltb, Option, None, Some, refl, sym, ap, ◌∙◌, subst, arith, one-add, ◌⊎◌, inl, inr, ◌-◌}
 use Rattle.std.specs.List.{list_all, position, prefix_len, before_first}
 use Rattle.std.specs.Char.{is_ascii_hexdigit}
+use Rattle.std.proofs.lemmas.Bool.{and_parts}
 use Rattle.std.proofs.lemmas.Bool.Decides.{nat_tests}
 use Rattle.mbqi_values.specs.declared.fault.FaultKind.{FaultKind}
 use Rattle.mbqi_values.specs.declared.fault.FaultKind.TheVariants.{BadByte, BadNumeral}
@@ -13,7 +14,7 @@ use Rattle.sexpr_text.specs.declared.class.Class.{Class}
 use Rattle.sexpr_text.specs.declared.class.Class.TheVariants as class
 use Rattle.sexpr_text.specs.declared.tree.Sexpr.{Sexpr}
 use Rattle.sexpr_text.specs.declared.tree.Sexpr.TheVariants as sexpr
-use Rattle.sexpr_text.specs.declared.tree.Sexpr.TheVariants.{rolls-Numeral, rolls-Decimal, rolls-Hex, rolls-Binary, rolls-Str, rolls-Symbol, rolls-Keyword, rolls-List}
+use Rattle.sexpr_text.specs.declared.tree.Sexpr.TheVariants.{rolls-Numeral, rolls-Decimal, rolls-Hex, rolls-Binary, rolls-Str, rolls-Symbol, rolls-Keyword}
 use Rattle.sexpr_text.specs.declared.tree.Sexpr.TheFolds.{fold-roll-Sexpr}
 use Rattle.sexpr_text.specs.declared.tree.Sexpr.TheOpen.{Sexpr-F}
 use Rattle.sexpr_text.specs.declared.token.Token.TheVariants.{Open, Close, Atom}
@@ -58,14 +59,10 @@ pub symbol_is_quoted : (b : ℕ) → is_symbol_byte b ≡ true → is_quoted_con
 unfolding is_symbol_byte is_quoted_content is_content
 symbol_is_quoted b is = grind (arith, nat_tests)
 
-pub both : (a b : Bool) → (a && b) ≡ true → (a ≡ true) × (b ≡ true)
-both true b is = (refl, is)
-both false b is = cc
-
 pub all_more : (p q : ℕ → Bool) → ((b : ℕ) → p b ≡ true → q b ≡ true) → (bs : List ℕ) → list_all p bs ≡ true → list_all q bs ≡ true
 all_more p q more [] all = refl
 all_more p q more (b ∷ bs) all =
-    let parts = both (p b) (list_all p bs) all in rw (more b parts.0) (all_more p q more bs parts.1)
+    let parts = and_parts (p b) (list_all p bs) all in rw (more b parts.0) (all_more p q more bs parts.1)
 
 pub all_of_word : (p : ℕ → Bool) (bs : List ℕ) → list_all p (take (prefix_len p bs) bs) ≡ true
 all_of_word p [] = refl
@@ -91,9 +88,9 @@ unfolding undoubled
 undoubled_all p [] all = refl
 undoubled_all p (b ∷ []) all = all
 undoubled_all p (b ∷ c ∷ bs) all =
-    let parts = both (p b) (list_all p (c ∷ bs)) all in
+    let parts = and_parts (p b) (list_all p (c ∷ bs)) all in
     elim (is_quote b) as (λ t. list_all p (cond t (b ∷ undoubled bs) (b ∷ undoubled (c ∷ bs))) ≡ true) [
-      | true ↦ rw parts.0 (undoubled_all p bs (both (p c) (list_all p bs) parts.1).1)
+      | true ↦ rw parts.0 (undoubled_all p bs (and_parts (p c) (list_all p bs) parts.1).1)
       | false ↦ rw parts.0 (undoubled_all p (c ∷ bs) parts.1)
     ]
 

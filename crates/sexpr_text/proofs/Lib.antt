@@ -7,5 +7,6 @@ pub mod Readings
 pub mod Soundness
 pub mod Spelling
 pub mod Texts
+pub mod Tokens
 pub mod Turns
 pub mod Unique

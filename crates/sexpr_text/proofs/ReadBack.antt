@@ -1,19 +1,17 @@
 -- A tree's text is read again as the tree: its tokens, in any place, before bytes that don't belong to it.
-use Rattle.std.proofs.Common.{◌≡◌, ℕ, ◌+◌, ◌-◌, ◌<◌, ◌≤◌, Bool, true, false, cond, ◌&&◌, eqb, max, List, [], ◌∷◌, ◌++◌, map, length, drop, None, Some, codes, refl, sym, ap, ◌∙◌, subst, arith, append_assoc, append-nil, length-append, ◌⊎◌, inl, inr, All, IsTrue}
+use Rattle.std.proofs.Common.{◌≡◌, ℕ, ◌+◌, ◌-◌, ◌<◌, Bool, true, false, cond, ◌&&◌, List, [], ◌∷◌, ◌++◌, map, length, codes, refl, sym, ap, ◌∙◌, subst, arith, append_assoc, append-nil, length-append, inl, inr, All, IsTrue}
 use Rattle.std.specs.List.{list_all, flat_map, AllByRecursion}
 use Rattle.std.proofs.Math.Seq.{drop-append_seam}
 use Rattle.std.proofs.lemmas.List.Sums.{list_all-from_AllPass}
 use Rattle.std.proofs.lemmas.List.Elements.{recursion_from_All}
-use Rattle.std.proofs.lemmas.Bool.Decides.{nat_tests}
-use Rattle.mbqi_values.specs.declared.fault.FaultKind.TheVariants.{Unopened, TooDeep}
-use Rattle.sexpr_text.specs.Bytes.{class_of, is_symbol_byte}
+use Rattle.std.proofs.lemmas.Bool.{and_parts}
+use Rattle.sexpr_text.specs.Bytes.{is_symbol_byte}
 use Rattle.sexpr_text.specs.Depth.{depth_of, depth_layer, highest, IsShallow}
 use Rattle.sexpr_text.specs.Front.{front_of}
-use Rattle.sexpr_text.specs.Lexis.{Placed, Lexed, Ended, Next, lexed, lexed_after, lexed_from, tokens_of, fault_from, open_limit}
+use Rattle.sexpr_text.specs.Lexis.{Placed, Ended, Next, lexed, lexed_from, open_limit}
 use Rattle.sexpr_text.specs.Forms.{spelled, BeginAt, EndAt, SpellForm, SpellForms, HaveForms}
 use Rattle.sexpr_text.specs.Legal.{is_legal, is_legal_layer}
 use Rattle.sexpr_text.specs.Text.{text_of, texts_of, lines_of, forms_at, is_simple, doubled}
-use Rattle.sexpr_text.specs.declared.tree.Form.{Form}
 use Rattle.sexpr_text.specs.declared.tree.Sexpr.{Sexpr}
 use Rattle.sexpr_text.specs.declared.tree.Sexpr.TheVariants as sexpr
 use Rattle.sexpr_text.specs.declared.tree.Sexpr.TheVariants.{rolls-List, rolls-Numeral, rolls-Decimal, rolls-Hex, rolls-Binary, rolls-Str, rolls-Symbol, rolls-Keyword}
@@ -23,31 +21,11 @@ use Rattle.sexpr_text.specs.declared.token.Token.{Token}
 use Rattle.sexpr_text.specs.declared.token.Token.TheVariants.{Open, Close, Atom}
 use Rattle.sexpr_text.specs.declared.token.Front.TheVariants as front
 use Rattle.sexpr_text.proofs.Fronts.{IsDelimited, numeral_front, decimal_front, hex_front, binary_front, string_is_front, simple_front, bars_front, keyword_is_front, numeral_some, decimal_some, simple_some}
-use Rattle.sexpr_text.proofs.Legality.{both, legal-Numeral, legal-Decimal, legal-Hex, legal-Binary, legal-Str, legal-Symbol, legal-Keyword}
+use Rattle.sexpr_text.proofs.Legality.{legal-Numeral, legal-Decimal, legal-Hex, legal-Binary, legal-Str, legal-Symbol, legal-Keyword}
 use Rattle.sexpr_text.proofs.Soundness.{token_of, map-append, ends_with}
 use Rattle.sexpr_text.proofs.Spelling.{by_cases, IsAtom, spelled-List, numeral_is_atom, decimal_is_atom, hex_is_atom, binary_is_atom, str_is_atom, symbol_is_atom, keyword_is_atom}
 use Rattle.sexpr_text.proofs.Texts.{numeral_text, decimal_text, hex_text, binary_text, str_text, symbol_is_text, keyword_text, list_text}
-use Rattle.sexpr_text.proofs.Turns.{behind_first}
-
--- tokens before others
-abbrev pub before : List Placed → Lexed → Lexed
-before [] rest = rest
-before (placed ∷ more) rest = Next placed (before more rest)
-
-before-append : (xs ys : List Placed) (rest : Lexed) → before (xs ++ ys) rest ≡ before xs (before ys rest)
-before-append [] ys rest = refl
-before-append (x ∷ xs) ys rest = ap (Next x) (before-append xs ys rest)
-
--- no token of these is a fault, in a place where `depth` more brackets may be open
-abbrev pub AreFaultless : List Placed → ℕ → Type 0
-AreFaultless own depth = (rest : Lexed) (d o : ℕ) → d + depth ≤ open_limit → (p : ℕ) × (fault_from d o (before own rest) ≡ fault_from d p rest)
-
--- the text at a place, before the rest, has these tokens
-pub record TextHas (text : List ℕ) (tokens : List Token) (depth at : ℕ) (rest : List ℕ) : Type 0 where
-  pub own : List Placed
-  pub lexes : lexed_from 0 at (text ++ rest) ≡ before own (lexed_from 0 (at + length text) rest)
-  pub tokens_are : map token_of own ≡ tokens
-  pub faultless : AreFaultless own depth
+use Rattle.sexpr_text.proofs.Tokens.{TextHas, AreFaultless, at_line_end, atom_faultless, atom_tokens, before, before-append, blank_first, both_faultless, close_first, delimits, have_forms, lexed-end, line_first, list_faultless, open_first, within_limit}
 
 -- the same of a tree's text, with the place of the tree
 pub record TreeBack (tree : Sexpr) (at : ℕ) (rest : List ℕ) : Type 0 where
@@ -57,18 +35,6 @@ pub record TreeBack (tree : Sexpr) (at : ℕ) (rest : List ℕ) : Type 0 where
 
 abbrev pub IsReadBack : Sexpr → Type 0
 IsReadBack tree = is_legal tree ≡ true → (at : ℕ) (rest : List ℕ) → IsDelimited rest → TreeBack tree at rest
-
--- a text that is one atom at its front
-atom_tokens : (at : ℕ) (token : Token) (len : ℕ) (bytes : List ℕ) → 0 < len → 0 < length bytes → front_of bytes ≡ front.Token token len →
-    lexed_from 0 at bytes ≡ Next (record { token = token; from = at; to = at + len }) (lexed_from 0 (at + len) (drop len bytes))
-unfolding lexed_from
-atom_tokens at token len [] some any is = absurd (omega arith)
-atom_tokens at token len (b ∷ bs) some any is =
-    ap (λ f. lexed_after at f (λ n. lexed_from (n - 1) (at + 1) bs)) is ∙ ap (Next (record { token = token; from = at; to = at + len })) (behind_first len at b bs some)
-
-atom_faultless : (tree : Sexpr) (from to : ℕ) → AreFaultless (record { token = Atom tree; from = from; to = to } ∷ []) 0
-unfolding fault_from
-atom_faultless tree from to rest d o within = (o, refl)
 
 atom_back : (tree : Sexpr) (text : List ℕ) (at : ℕ) (rest : List ℕ) → IsAtom tree → depth_of tree ≡ 0 → text_of tree ≡ text → 0 < length text →
     front_of (text ++ rest) ≡ front.Token (Atom tree) (length text) → TreeBack tree at rest
@@ -100,19 +66,19 @@ decimal_back text legal at rest ends =
 
 hex_back : (text : List ℕ) → IsReadBack (sexpr.Hex text)
 hex_back text legal at rest ends =
-    let parts = both _ _ (sym (legal-Hex text) ∙ legal) in
+    let parts = and_parts _ _ (sym (legal-Hex text) ∙ legal) in
     atom_back (sexpr.Hex text) (codes "#x" ++ text) at rest (hex_is_atom text) (ap depth_of (sym (rolls-Hex text)) ∙ fold-roll-Sexpr ℕ depth_layer (Sexpr-F.Hex text)) (hex_text text) (omega arith)
     (hex_front text rest parts.0 parts.1 ends ∙ ap (front.Token (Atom (sexpr.Hex text))) (omega arith))
 
 binary_back : (text : List ℕ) → IsReadBack (sexpr.Binary text)
 binary_back text legal at rest ends =
-    let parts = both _ _ (sym (legal-Binary text) ∙ legal) in
+    let parts = and_parts _ _ (sym (legal-Binary text) ∙ legal) in
     atom_back (sexpr.Binary text) (codes "#b" ++ text) at rest (binary_is_atom text) (ap depth_of (sym (rolls-Binary text)) ∙ fold-roll-Sexpr ℕ depth_layer (Sexpr-F.Binary text)) (binary_text text) (omega arith)
     (binary_front text rest parts.0 parts.1 ends ∙ ap (front.Token (Atom (sexpr.Binary text))) (omega arith))
 
 keyword_back : (text : List ℕ) → IsReadBack (sexpr.Keyword text)
 keyword_back text legal at rest ends =
-    let parts = both _ _ (sym (legal-Keyword text) ∙ legal) in
+    let parts = and_parts _ _ (sym (legal-Keyword text) ∙ legal) in
     atom_back (sexpr.Keyword text) (codes ":" ++ text) at rest (keyword_is_atom text) (ap depth_of (sym (rolls-Keyword text)) ∙ fold-roll-Sexpr ℕ depth_layer (Sexpr-F.Keyword text)) (keyword_text text) (omega arith)
     (keyword_is_front text rest parts.0 parts.1 ends ∙ ap (front.Token (Atom (sexpr.Keyword text))) (omega arith))
 
@@ -135,23 +101,6 @@ symbol_back text legal at rest ends =
           ∙ ap (front.Token (Atom (sexpr.Symbol text))) (omega (arith, length-append text (124 ∷ []))))
     ] refl
 
--- one byte that is a token or white space
-blank_first : (at : ℕ) (bytes : List ℕ) → lexed_from 0 at (32 ∷ bytes) ≡ lexed_from 0 (at + 1) bytes
-unfolding lexed_from front_of class_of
-blank_first at bytes = refl
-
-open_first : (at : ℕ) (bytes : List ℕ) → lexed_from 0 at (40 ∷ bytes) ≡ Next (record { token = Open; from = at; to = at + 1 }) (lexed_from 0 (at + 1) bytes)
-unfolding lexed_from front_of class_of
-open_first at bytes = refl
-
-close_first : (at : ℕ) (bytes : List ℕ) → lexed_from 0 at (41 ∷ bytes) ≡ Next (record { token = Close; from = at; to = at + 1 }) (lexed_from 0 (at + 1) bytes)
-unfolding lexed_from front_of class_of
-close_first at bytes = refl
-
-delimits : (b : ℕ) (bytes : List ℕ) → (b ≡ 32) ⊎ (b ≡ 41) → IsDelimited (b ∷ bytes)
-unfolding is_symbol_byte
-delimits b bytes is = record { no_symbol = grind (arith, nat_tests); no_quote = grind (arith, nat_tests) }
-
 -- the texts of the parts behind the first, each with a blank before it
 abbrev pub more_texts : List Sexpr → List ℕ
 more_texts parts = flat_map (λ part. codes " " ++ text_of part) parts
@@ -163,18 +112,11 @@ delimits_more (part ∷ parts) rest ends = delimits 32 _ (inl refl)
 abbrev pub depths : List Sexpr → ℕ
 depths parts = highest (map depth_of parts)
 
--- tokens behind tokens
-both_faultless : (xs ys : List Placed) (m n : ℕ) → AreFaultless xs m → AreFaultless ys n → AreFaultless (xs ++ ys) (max m n)
-both_faultless xs ys m n first second rest d o within =
-    let one = first (before ys rest) d o (omega arith) in
-    let two = second rest d one.0 (omega arith) in
-    (two.0, ap (fault_from d o) (before-append xs ys rest) ∙ one.1 ∙ two.1)
-
 more_back : (parts : List Sexpr) → AllByRecursion IsReadBack parts → list_all is_legal parts ≡ true → (at : ℕ) (rest : List ℕ) → IsDelimited rest →
     TextHas (more_texts parts) (flat_map spelled parts) (depths parts) at rest
 more_back [] backs legal at rest ends = record { own = []; lexes = ap (λ n. lexed_from 0 n rest) (omega arith); tokens_are = refl; faultless = λ lx d o within. (o, refl) }
 more_back (part ∷ parts) backs legal at rest ends =
-    let legals = both (is_legal part) (list_all is_legal parts) legal in
+    let legals = and_parts (is_legal part) (list_all is_legal parts) legal in
     let after = more_texts parts ++ rest in
     let one = backs.0 legals.0 (at + 1) after (delimits_more parts rest ends) in
     let two = more_back parts backs.1 legals.1 (at + 1 + length (text_of part)) rest ends in
@@ -191,7 +133,7 @@ parts_back : (parts : List Sexpr) → AllByRecursion IsReadBack parts → list_a
     TextHas (texts_of parts) (flat_map spelled parts) (depths parts) at rest
 parts_back [] backs legal at rest ends = more_back [] backs legal at rest ends
 parts_back (part ∷ parts) backs legal at rest ends =
-    let legals = both (is_legal part) (list_all is_legal parts) legal in
+    let legals = and_parts (is_legal part) (list_all is_legal parts) legal in
     let after = more_texts parts ++ rest in
     let one = backs.0 legals.0 at after (delimits_more parts rest ends) in
     let two = more_back parts backs.1 legals.1 (at + length (text_of part)) rest ends in
@@ -213,26 +155,6 @@ legal-List parts = ap is_legal (sym (rolls-List parts)) ∙ fold-roll-Sexpr Bool
 
 pub depth-List : (parts : List Sexpr) → depth_of (sexpr.List parts) ≡ 1 + depths parts
 depth-List parts = ap depth_of (sym (rolls-List parts)) ∙ fold-roll-Sexpr ℕ depth_layer (Sexpr-F.List parts)
-
-below_limit : (d depth : ℕ) → d + (1 + depth) ≤ open_limit → eqb d open_limit ≡ false
-below_limit d depth within = grind (arith, nat_tests)
-
-some_open : (d : ℕ) → eqb (d + 1) 0 ≡ false
-some_open d = grind (arith, nat_tests)
-
-list_faultless : (inner : List Placed) (depth a b c e : ℕ) → AreFaultless inner depth →
-    AreFaultless (record { token = Open; from = a; to = b } ∷ (inner ++ record { token = Close; from = c; to = e } ∷ [])) (1 + depth)
-unfolding fault_from
-list_faultless inner depth a b c e parts rest d o within =
-    let close : Placed = record { token = Close; from = c; to = e } in
-    let o' = cond (eqb d 0) a o in
-    let one = parts (Next close rest) (d + 1) o' (omega arith) in (
-      one.0,
-      ap (λ t. cond t (Some (record { at = a; kind = TooDeep })) (fault_from (d + 1) o' (before (inner ++ close ∷ []) rest))) (below_limit d depth within)
-          ∙ ap (fault_from (d + 1) o') (before-append inner (close ∷ []) rest) ∙ one.1
-          ∙ ap (λ t. cond t (Some (record { at = c; kind = Unopened })) (fault_from (d + 1 - 1) one.0 rest)) (some_open d)
-          ∙ ap (λ n. fault_from n one.0 rest) (omega arith),
-    )
 
 list_len : (parts : List Sexpr) (at : ℕ) → at + 1 + length (texts_of parts) + 1 ≡ at + length (text_of (sexpr.List parts))
 list_len parts at = omega (arith, ap length (list_text parts), length-append (texts_of parts) (41 ∷ []))
@@ -274,29 +196,6 @@ at_end : IsDelimited []
 unfolding is_symbol_byte
 at_end = record { no_symbol = refl; no_quote = refl }
 
-at_line_end : (bytes : List ℕ) → IsDelimited (10 ∷ bytes)
-unfolding is_symbol_byte
-at_line_end bytes = record { no_symbol = refl; no_quote = refl }
-
-tokens-before : (own : List Placed) → tokens_of (before own Ended) ≡ own
-tokens-before [] = refl
-tokens-before (placed ∷ own) = ap (λ more. placed ∷ more) (tokens-before own)
-
-lexed-end : (at : ℕ) → lexed_from 0 at [] ≡ Ended
-unfolding lexed_from
-lexed-end at = refl
-
-none_open : (o : ℕ) → fault_from 0 o Ended ≡ None
-unfolding fault_from
-none_open o = refl
-
--- a text is read as the forms whose tokens it has
-have_forms : (bytes : List ℕ) (own : List Placed) (depth : ℕ) (forms : List Form) → lexed bytes ≡ before own Ended → AreFaultless own depth → depth ≤ open_limit → SpellForms own forms → HaveForms bytes forms
-have_forms bytes own depth forms is faultless within spelled = record {
-  faultless = ap (fault_from 0 0) is ∙ (faultless Ended 0 0 (omega arith)).1 ∙ none_open _;
-  spelled = subst (λ tokens. SpellForms tokens forms) (sym (ap tokens_of is ∙ tokens-before own)) spelled;
-}
-
 one_form : (tree : Sexpr) (at : ℕ) (rest : List ℕ) (back : TreeBack tree at rest) → SpellForm back.has.own (record { tree = tree; from = at; to = at + length (text_of tree) })
 one_form tree at rest back = record { tree = back.has.tokens_are; from = back.begins; to = back.ends }
 
@@ -307,10 +206,6 @@ read_back tree legal shallow =
     (ap lexed (sym (append-nil (text_of tree))) ∙ back.has.lexes ∙ ap (before back.has.own) (lexed-end _)) back.has.faultless shallow
     (back.has.own, [], sym (append-nil back.has.own), one_form tree 0 [] back, refl)
 
-line_first : (at : ℕ) (bytes : List ℕ) → lexed_from 0 at (10 ∷ bytes) ≡ lexed_from 0 (at + 1) bytes
-unfolding lexed_from front_of class_of
-line_first at bytes = refl
-
 -- the forms of lines at a place
 pub record LinesBack (trees : List Sexpr) (at : ℕ) : Type 0 where
   pub own : List Placed
@@ -318,13 +213,10 @@ pub record LinesBack (trees : List Sexpr) (at : ℕ) : Type 0 where
   pub faultless : AreFaultless own open_limit
   pub spelled : SpellForms own (forms_at at trees)
 
-within_limit : (own : List Placed) (depth : ℕ) → depth ≤ open_limit → AreFaultless own depth → AreFaultless own open_limit
-within_limit own depth small faultless rest d o within = faultless rest d o (omega arith)
-
 lines_at : (trees : List Sexpr) → list_all is_legal trees ≡ true → AllByRecursion IsShallow trees → (at : ℕ) → LinesBack trees at
 lines_at [] legal shallow at = record { own = []; lexes = lexed-end at; faultless = λ rest d o within. (o, refl); spelled = refl }
 lines_at (tree ∷ trees) legal shallow at =
-    let legals = both (is_legal tree) (list_all is_legal trees) legal in
+    let legals = and_parts (is_legal tree) (list_all is_legal trees) legal in
     let end = at + length (text_of tree) in
     let one = tree_back tree legals.0 at (10 ∷ lines_of trees) (at_line_end (lines_of trees)) in
     let more = lines_at trees legals.1 shallow.1 (end + 1) in

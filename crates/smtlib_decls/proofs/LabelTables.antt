@@ -2,9 +2,10 @@
 use Rattle.std.proofs.Common.{◌≡◌, ℕ, Bool, true, false, ◌||◌, List, [], ◌∷◌, ◌++◌, length, take, Option, None, Some, refl, sym, ap, subst, ◌∙◌}
 use Rattle.std.specs.Prelude.{if◌then◌else◌}
 use Rattle.std.specs.List.{list_any}
-use Rattle.std.proofs.lemmas.Slice.Eq.{bytes_eq-Decides}
 use Rattle.mbqi_terms.specs.declared.script.Assertion.{Assertion}
 use Rattle.smtlib_terms.specs.Words.{is_one_of, is_text}
+use Rattle.smtlib_terms.proofs.Texts.{same_text}
+use Rattle.smtlib_names.proofs.Named.{or_false}
 use Rattle.smtlib_decls.specs.Labels.{AreLabels, is_labelled, with_label}
 
 -- the labels without the newest
@@ -25,10 +26,6 @@ front_of_labels labels None = own_front labels
 front_of_labels labels (Some label) = front_step labels label (is_one_of labels label)
 
 -- one of a list and of one more
-or_false : (b : Bool) → (b || false) ≡ b
-or_false true = refl
-or_false false = refl
-
 or_assoc : (a b c : Bool) → (a || (b || c)) ≡ ((a || b) || c)
 or_assoc true b c = refl
 or_assoc false b c = refl
@@ -42,7 +39,7 @@ covered : (labels : List (List ℕ)) (new label : List ℕ) → is_one_of labels
     → is_one_of labels label ≡ (is_one_of labels label || same)
 covered labels new label there false differs = sym (or_false (is_one_of labels label))
 covered labels new label there true same =
-    let found : is_one_of labels label ≡ true = subst (λ l. is_one_of labels l ≡ true) ((bytes_eq-Decides new label).0 same) there in
+    let found : is_one_of labels label ≡ true = subst (λ l. is_one_of labels l ≡ true) (same_text new label same) there in
     found ∙ sym (ap (λ (b : Bool). b || true) found)
 
 among_step : (labels : List (List ℕ)) (new label : List ℕ) (there : Bool) → is_one_of labels new ≡ there

@@ -1,5 +1,5 @@
 -- Sorts as the definition reads them, one in turn.
-use Rattle.std.proofs.Common.{◌≡◌, List, [], ◌∷◌, ◌++◌, Result, Ok, Err, refl, ap, sym, ◌∙◌, append_assoc, append-nil}
+use Rattle.std.proofs.Common.{◌≡◌, List, [], ◌∷◌, ◌++◌, Result, Ok, Err, ap, ◌∙◌, append-nil}
 use Rattle.mbqi_values.specs.declared.fault.FaultKind.{FaultKind}
 use Rattle.mbqi_values.specs.declared.fault.ReadError.{ReadError}
 use Rattle.mbqi_values.specs.declared.fault.ReadError.TheVariants.{Refused, Memory}
@@ -9,16 +9,9 @@ use Rattle.smtlib_terms.specs.Answers.{IsFault}
 use Rattle.smtlib_terms.specs.Declaring.{Declarations, sort_read}
 use Rattle.smtlib_terms.specs.Names.{◌>>=◌}
 use Rattle.smtlib_terms.specs.Steps.{behind}
+use Rattle.smtlib_terms.proofs.Steps.{behind_next, behind_nothing}
 use Rattle.smtlib_decls.specs.Commands.{sorts_read}
 use Rattle.smtlib_decls.specs.Takes.{sorts_behind}
-
-behind_next : (before : List Sort) (s : Sort) (rest : Result (List Sort) FaultKind) → behind before (rest >>= (λ ss. Ok (s ∷ ss))) ≡ behind (before ++ s ∷ []) rest
-behind_next before s (Ok ss) = ap (λ (ys : List Sort). Ok ys) (sym (append_assoc before (s ∷ []) ss))
-behind_next before s (Err kind) = refl
-
-behind_nothing : (rest : Result (List Sort) FaultKind) → behind [] rest ≡ rest
-behind_nothing (Ok ss) = refl
-behind_nothing (Err kind) = refl
 
 pub sorts_start : (names : Declarations) (ts : List Sexpr) → sorts_behind [] names ts ≡ sorts_read names ts
 unfolding sorts_behind

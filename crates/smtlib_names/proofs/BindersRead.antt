@@ -1,5 +1,5 @@
 -- Binders as the definition reads them, one in turn.
-use Rattle.std.proofs.Common.{◌≡◌, ℕ, ◌+◌, Bool, true, false, subst, List, [], ◌∷◌, ◌++◌, Result, Ok, Err, refl, ap, sym, ◌∙◌, append_assoc, append-nil}
+use Rattle.std.proofs.Common.{◌≡◌, ℕ, ◌+◌, Bool, true, false, subst, List, [], ◌∷◌, ◌++◌, Result, Ok, Err, refl, ap, ◌∙◌, append-nil}
 use Rattle.mbqi_values.specs.declared.fault.FaultKind.{FaultKind}
 use Rattle.mbqi_terms.specs.declared.sort.Sort.{Sort}
 use Rattle.sexpr_text.specs.declared.tree.Sexpr.{Sexpr}
@@ -16,23 +16,9 @@ use Rattle.smtlib_terms.specs.Declaring.{parameters_of}
 use Rattle.smtlib_terms.specs.Names.{◌>>=◌}
 use Rattle.smtlib_terms.specs.Reading.{bindable, binder_name, binder_sort, binders_of, quantifiable}
 use Rattle.smtlib_terms.specs.Steps.{behind}
+use Rattle.smtlib_terms.proofs.Steps.{behind_next, behind_nothing, two_steps}
 
--- one more item was read
-behind_next : {A : Type 0} (before : List A) (x : A) (rest : Result (List A) FaultKind) → behind before (rest >>= (λ xs. Ok (x ∷ xs))) ≡ behind (before ++ x ∷ []) rest
-behind_next before x (Ok xs) = ap (λ (ys : List _). Ok ys) (sym (append_assoc before (x ∷ []) xs))
-behind_next before x (Err kind) = refl
-
-behind_nothing : {A : Type 0} (rest : Result (List A) FaultKind) → behind [] rest ≡ rest
-behind_nothing (Ok xs) = refl
-behind_nothing (Err kind) = refl
-
--- a value of two or three steps that is used behind them
-two_steps : {A B C D : Type 0} (r : Result A FaultKind) (q : Result B FaultKind) (make : A → B → C) (rest : C → Result D FaultKind)
-    → r >>= (λ a. q >>= (λ b. rest (make a b))) ≡ r >>= (λ a. q >>= (λ b. Ok (make a b))) >>= rest
-two_steps (Ok a) (Ok b) make rest = refl
-two_steps (Ok a) (Err kind) make rest = refl
-two_steps (Err kind) q make rest = refl
-
+-- a value of three steps that is used behind them
 three_steps : {A B C D E : Type 0} (r : Result A FaultKind) (p : A → Result E FaultKind) (q : Result B FaultKind) (make : E → B → C) (rest : C → Result D FaultKind)
     → r >>= (λ a. p a >>= (λ e. q >>= (λ b. rest (make e b)))) ≡ r >>= (λ a. p a >>= (λ e. q >>= (λ b. Ok (make e b)))) >>= rest
 three_steps (Ok a) p q make rest = two_steps (p a) q make rest

@@ -2,7 +2,6 @@
 use Rattle.std.proofs.Common.{◌≡◌, ◌≢◌, ℕ, zero, suc, ◌+◌, ◌<◌, Bool, true, false, ◌||◌, List, [], ◌∷◌, ◌++◌, map, take, None, Some, position, slice_get, refl, sym, ap, subst, ◌∙◌, cond, true≢false, ◌≤◌, arith}
 use Rattle.std.specs.Prelude.{if◌then◌else◌}
 use Rattle.std.specs.List.{fold, list_any, position_from}
-use Rattle.std.proofs.lemmas.Slice.Eq.{bytes_eq-Decides}
 use Rattle.std.proofs.lemmas.Iterator.Adapters.{position_from-zero}
 use Rattle.std.proofs.lemmas.List.{map-append}
 use Rattle.name_tables.specs.Names.{with_name}
@@ -11,12 +10,14 @@ use Rattle.smtlib_terms.specs.declared.names.Macro.{Macro}
 use Rattle.smtlib_terms.specs.Declaring.{Declarations, is_function, names_before, reader_of, signature_of, with_macro}
 use Rattle.smtlib_terms.specs.Names.{Signature, function_named, macro_named}
 use Rattle.smtlib_terms.specs.Words.{is_one_of, is_text}
+use Rattle.smtlib_terms.proofs.Texts.{other_text, own_text}
 
 -- a name that is none of the list comes last
 pub new_name : (names : List (List ℕ)) (name : List ℕ) → is_one_of names name ≡ false → with_name names name ≡ names ++ name ∷ []
 new_name names name new = ap (λ (there : Bool). if there then names else names ++ name ∷ []) new
 
-or_false : (b : Bool) → (b || false) ≡ b
+-- a test beside one that fails
+pub or_false : (b : Bool) → (b || false) ≡ b
 or_false true = refl
 or_false false = refl
 
@@ -37,19 +38,6 @@ IsNowhere name names = (k : ℕ) (x : List ℕ) → slice_get names k ≡ Some x
 
 abbrev pub IsOnlyAt : List ℕ → List (List ℕ) → ℕ → Type 0
 IsOnlyAt name names i = (k : ℕ) → slice_get names k ≡ Some name → k ≡ i
-
-same_text : (a b : List ℕ) → is_text a b ≡ true → a ≡ b
-same_text a b = (bytes_eq-Decides a b).0
-
-own_text : (a : List ℕ) → is_text a a ≡ true
-own_text a = (bytes_eq-Decides a a).1 refl
-
-other_text : (a b : List ℕ) → a ≢ b → is_text a b ≡ false
-other_text a b differ = go (is_text a b) refl
-  where
-    go : (t : Bool) → is_text a b ≡ t → is_text a b ≡ false
-    go true e = absurd (differ (same_text a b e))
-    go false e = e
 
 nowhere_from : (name : List ℕ) (at : ℕ) (names : List (List ℕ)) → position_from (is_text name) at names ≡ None → IsNowhere name names
 nowhere_from name at [] none k x there = cc

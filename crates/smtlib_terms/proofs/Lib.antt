@@ -1,3 +1,5 @@
 pub mod Rows
 pub mod SortTrees
+pub mod Steps
 pub mod TermTrees
+pub mod Texts

@@ -1,5 +1,5 @@
 -- Arguments and bindings as the definition reads them, one in turn.
-use Rattle.std.proofs.Common.{◌≡◌, ℕ, ◌+◌, Bool, true, false, List, [], ◌∷◌, ◌++◌, map, Option, None, Some, Result, Ok, Err, refl, ap, sym, ◌∙◌, append_assoc, append-nil, arith, subst, if◌then◌else◌}
+use Rattle.std.proofs.Common.{◌≡◌, ℕ, ◌+◌, Bool, true, false, List, [], ◌∷◌, ◌++◌, map, None, Some, Result, Ok, Err, refl, ap, sym, ◌∙◌, append-nil, arith, subst, if◌then◌else◌}
 use Rattle.mbqi_values.specs.declared.fault.FaultKind.{FaultKind}
 use Rattle.mbqi_values.specs.declared.fault.ReadError.{ReadError}
 use Rattle.mbqi_values.specs.declared.fault.ReadError.TheVariants.{Refused, Memory}
@@ -15,17 +15,9 @@ use Rattle.smtlib_terms.specs.declared.meaning.Side.TheVariants.{Meant, Differen
 use Rattle.smtlib_terms.specs.Operators.{plainly, two_sides}
 use Rattle.smtlib_terms.specs.Reading.{Part, Reading, bindable, binder_name, bindings_read, inner, part_of, parts_read, readings, side, sides_read, trees_in, value_read, values_read}
 use Rattle.smtlib_terms.specs.Steps.{behind}
+use Rattle.smtlib_terms.proofs.Steps.{behind_next, behind_nothing, two_steps}
 use Rattle.term_reader.specs.Plans.{arguments_behind, arguments_read, binding_among, bindings_among, bindings_behind, is_difference, operator_read, second_side, two_of}
 use Rattle.term_reader.proofs.Bindings.{inner_trees, readings_trees}
-
--- one more item was read
-behind_next : {A : Type 0} (before : List A) (x : A) (rest : Result (List A) FaultKind) → behind before (rest >>= (λ xs. Ok (x ∷ xs))) ≡ behind (before ++ x ∷ []) rest
-behind_next before x (Ok xs) = ap (λ (ys : List _). Ok ys) (sym (append_assoc before (x ∷ []) xs))
-behind_next before x (Err kind) = refl
-
-behind_nothing : {A : Type 0} (rest : Result (List A) FaultKind) → behind [] rest ≡ rest
-behind_nothing (Ok xs) = refl
-behind_nothing (Err kind) = refl
 
 same_behind : {A : Type 0} (first : Result A FaultKind) (rest other : A → Result (List A) FaultKind) → ((a : A) → rest a ≡ other a)
     → first >>= (λ a. rest a >>= (λ items. Ok (a ∷ items))) ≡ first >>= (λ a. other a >>= (λ items. Ok (a ∷ items)))
@@ -111,12 +103,6 @@ arguments_faulty error before counted p ps names scope next fault =
     (behind_faulty error before (p.reads names scope next >>= plainly) _ fault)
 
 -- bindings
-two_steps : {A B C D : Type 0} (r : Result A FaultKind) (q : Result B FaultKind) (make : A → B → C) (rest : C → Result D FaultKind)
-    → r >>= (λ a. q >>= (λ b. rest (make a b))) ≡ r >>= (λ a. q >>= (λ b. Ok (make a b))) >>= rest
-two_steps (Ok a) (Ok b) make rest = refl
-two_steps (Ok a) (Err kind) make rest = refl
-two_steps (Err kind) q make rest = refl
-
 -- a binding as the definition reads it, by the trees in it
 binding_is : (ts : List Sexpr) (name : List ℕ) (names : Signature) (scope : List Binding) (next : ℕ) (seen : List (List ℕ))
     → value_read (map side ts) names scope next >>= (λ m. bindable name seen >>= (λ n. let b : Result Binding FaultKind = Ok (record { name = n; bound = Value next m }) in b))

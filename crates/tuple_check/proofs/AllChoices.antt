@@ -1,6 +1,6 @@
 -- What is said of the failing choices of all rules.
-use Rattle.std.proofs.Common.{◌≡◌, ℕ, zero, suc, ◌+◌, ◌<◌, Bool, true, false, not, List, [], ◌∷◌, ◌++◌, length, map, refl, sym, ap, subst, ◌∙◌, inl, inr, arith}
-use Rattle.std.specs.Prelude.{◌⊎◌, ◌≤◌, All, Contains, Some, slice_get, slice_index_or}
+use Rattle.std.proofs.Common.{◌≡◌, ℕ, zero, suc, ◌+◌, ◌<◌, Bool, true, false, not, List, [], ◌∷◌, length, map, refl, sym, ap, subst, ◌∙◌, inl, inr, arith}
+use Rattle.std.specs.Prelude.{◌≤◌, All, Contains, Some, slice_get}
 use Rattle.std.specs.List.{AllByRecursion}
 use Rattle.std.proofs.lemmas.List.{length-map}
 use Rattle.std.proofs.lemmas.List.Elements.{All-head, All-tail, All-nil, All-cons, All-append}
@@ -8,7 +8,6 @@ use Rattle.std.proofs.lemmas.Option.{slice_get_cases, slice_get_within, slice_ge
 use Rattle.mbqi_terms.specs.Distinct.{AreDistinct}
 use Rattle.mbqi_terms.specs.declared.formula.Formula.{Formula}
 use Rattle.mbqi_terms.specs.declared.script.Assertion.{Assertion}
-use Rattle.mbqi_terms.specs.declared.script.Function.{Function}
 use Rattle.mbqi_terms.specs.declared.script.Script.{Script}
 use Rattle.mbqi_terms.specs.declared.term.Term.{Term}
 use Rattle.mbqi_terms.proofs.Places.{all_at}
@@ -19,6 +18,7 @@ use Rattle.ground_form.specs.declared.atoms.GroundAtom.{GroundAtom}
 use Rattle.ground_form.specs.declared.pool.Pool.{Pool}
 use Rattle.rule_form.specs.Rules.{IsChoice, IsOpen, assertion_at, clause_at, clause_of, formula_of, line_of, pool_terms, variables_of}
 use Rattle.rule_form.specs.declared.choice.Choice.{Choice}
+use Rattle.rule_form.proofs.Rests.{AtFrom, from_first, from_here, from_next}
 use Rattle.rule_form.proofs.Shapes.{rule_clause, rule_variables}
 use Rattle.tuple_check.specs.Failing.{choice_of, failing_from, failing_of, fails_at, term_in, truth_at}
 use Rattle.tuple_check.specs.Tuples.{tuples_where}
@@ -26,19 +26,6 @@ use Rattle.tuple_check.proofs.Arguments.{at_default}
 use Rattle.tuple_check.proofs.Choices.{pool_distinct}
 use Rattle.tuple_check.proofs.Truths.{clause_truth}
 use Rattle.tuple_check.proofs.TupleLists.{IsTuple, are_tuples, at_place, distinct_append, distinct_nil, front_nothing, none_passes, rest_nothing, tuples_distinct}
-
--- the rest of a list, whose first element has number k in the whole
-abbrev AtFrom : List Assertion → ℕ → List Assertion → Type 0
-AtFrom whole k rest = (i : ℕ) (a : Assertion) → slice_get rest i ≡ Some a → slice_get whole (k + i) ≡ Some a
-
-from_next : (whole : List Assertion) (k : ℕ) (a : Assertion) (rest : List Assertion) → AtFrom whole k (a ∷ rest) → AtFrom whole (k + 1) rest
-from_next whole k a rest at i b e = let n : k + suc i ≡ k + 1 + i = omega arith in subst (λ j. slice_get whole j ≡ Some b) n (at (suc i) b e)
-
-from_here : (whole : List Assertion) (k : ℕ) (a : Assertion) (rest : List Assertion) → AtFrom whole k (a ∷ rest) → slice_get whole k ≡ Some a
-from_here whole k a rest at = let n : k + 0 ≡ k = omega arith in subst (λ j. slice_get whole j ≡ Some a) n (at 0 a refl)
-
-from_first : (whole : List Assertion) → AtFrom whole 0 whole
-from_first whole i a e = let n : i ≡ 0 + i = omega arith in subst (λ j. slice_get whole j ≡ Some a) n e
 
 -- tuples of pool numbers and their terms
 terms_within : (terms : List Term) (tuple : List ℕ) → All (λ i. i < length terms) tuple → All (λ t. Contains terms t) (map (term_in terms) tuple)

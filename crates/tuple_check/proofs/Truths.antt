@@ -1,7 +1,8 @@
 -- The truth of a clause at a tuple is that of its instance, in each valuation that has the truths of the atoms.
-use Rattle.std.proofs.Common.{◌≡◌, ℕ, zero, suc, ◌<◌, Bool, true, false, true≢false, not, ◌&&◌, ◌||◌, nat_eq, List, [], ◌∷◌, length, map, if◌then◌else◌, cond, refl, sym, ap, subst, ◌∙◌, inl, inr, arith, rules}
+use Rattle.std.proofs.Common.{◌≡◌, ℕ, zero, suc, ◌<◌, Bool, true, false, true≢false, not, ◌&&◌, ◌||◌, nat_eq, List, [], ◌∷◌, length, map, cond, refl, sym, ap, ◌∙◌, inl, inr, arith, rules}
 use Rattle.std.specs.Prelude.{◌⊎◌, All, Contains, slice_index_or}
 use Rattle.std.specs.List.{list_any}
+use Rattle.std.proofs.lemmas.Bool.{and_parts}
 use Rattle.std.proofs.lemmas.List.Elements.{All-head, All-tail}
 use Rattle.mbqi_values.specs.declared.value.Value.TheVariants.{Truth}
 use Rattle.mbqi_terms.specs.declared.formula.Formula as formulas
@@ -15,7 +16,7 @@ use Rattle.mbqi_terms.specs.declared.term_id.TermId.{TermId}
 use Rattle.function_model.specs.TruthOf.{Meanings, truth_of}
 use Rattle.function_model.specs.TruthOf.{truth_layer as meaning_layer}
 use Rattle.function_model.specs.ValueOf.{is_true}
-use Rattle.ground_form.specs.Atoms.{Decides, IsOver, IsPool, atom_at, atom_tree, same_atom, same_ids, truth_in}
+use Rattle.ground_form.specs.Atoms.{Decides, IsOver, IsPool, atom_tree, same_atom, same_ids, truth_in}
 use Rattle.ground_form.specs.Profile.{IsArgument, IsAtom, IsClause, IsLiteral}
 use Rattle.ground_form.specs.declared.atoms.GroundAtom.{GroundAtom}
 use Rattle.ground_form.specs.declared.pool.Pool.{Pool}
@@ -32,23 +33,19 @@ same_number m n e = search rules
 own_number : (n : ℕ) → nat_eq n n ≡ true
 own_number n = search (rules, arith)
 
-both : (a b : Bool) → (a && b) ≡ true → (a ≡ true) × (b ≡ true)
-both true b h = (refl, h)
-both false b h = cc
-
 equal_ids : (ms ns : List TermId) → same_ids ms ns ≡ true → ms ≡ ns
 equal_ids [] [] e = refl
 equal_ids [] (n ∷ ns) e = cc
 equal_ids (m ∷ ms) [] e = cc
 equal_ids (m ∷ ms) (n ∷ ns) e =
-    let parts = both (nat_eq m.0 n.0) (same_ids ms ns) e in
+    let parts = and_parts (nat_eq m.0 n.0) (same_ids ms ns) e in
     let p = same_number m.0 n.0 parts.0 in
     let q = equal_ids ms ns parts.1 in
     λ i. record { 0 = p i } ∷ q i
 
 equal_atoms : (a b : GroundAtom) → same_atom a b ≡ true → a ≡ b
 equal_atoms a b e =
-    let parts = both (nat_eq a.predicate b.predicate) (same_ids a.args b.args) e in
+    let parts = and_parts (nat_eq a.predicate b.predicate) (same_ids a.args b.args) e in
     let p = same_number a.predicate b.predicate parts.0 in
     let q = equal_ids a.args b.args parts.1 in
     λ i. record { predicate = p i; args = q i }

@@ -1,13 +1,9 @@
 -- The three pieces are the text, with the question marks that were counted.
-use Rattle.std.proofs.Common.{◌≡◌, ℕ, List, ◌++◌, Result, Ok, Err, is_ok, OnOk, if◌then◌else◌, codes, ap, ◌∙◌, append_assoc}
+use Rattle.std.proofs.Common.{◌≡◌, ℕ, List, ◌++◌, codes, ap, ◌∙◌, append_assoc}
 use Rattle.smtlib_printer.specs.Names.{marks_of}
+use Rattle.smtlib_printer.proofs.Pieces.{written}
 use Rattle.refutation_text.specs.RefutationText.{instances_text, refutation_text}
 use Rattle.refutation_text.proofs.write_refutation.Goals as goal
-
--- the last call's result is returned as it is
-written : {T E : Type 0} (r : Result T E) (new all before whole : List ℕ) → new ≡ (if is_ok r then all else before) → all ≡ whole → OnOk r (new ≡ whole)
-written (Ok x) new all before whole e f = e ∙ f
-written (Err x) new all before whole e f = tt
 
 three : (old a b c : List ℕ) → ((old ++ a) ++ b) ++ c ≡ old ++ (a ++ (b ++ c))
 three old a b c = simp append_assoc
