@@ -1,7 +1,7 @@
 -- Comparisons over meanings that are placed one behind the other: each argument stands in several atoms.
 use Rattle.std.proofs.Common.{◌≡◌, ◌≤◌, ℕ, suc, ◌+◌, true, false, cond, leb, List, [], ◌∷◌, ◌++◌, length, map, Ok, Err, refl, ap, sym, subst, ◌∙◌, arith}
 use Rattle.std.specs.List.{list_any}
-use Rattle.std.proofs.lemmas.Bool.{or_parts}
+use Rattle.std.proofs.lemmas.Bool.{and_parts, or_parts}
 use Rattle.mbqi_values.specs.declared.fault.FaultKind.TheVariants.{QuantifierPlace, WrongCount, WrongSort}
 use Rattle.mbqi_terms.specs.declared.formula.Formula.{Formula}
 use Rattle.mbqi_terms.specs.declared.formula.Formula.TheVariants as formula
@@ -13,7 +13,6 @@ use Rattle.mbqi_terms.specs.declared.sort.Sort.{Sort}
 use Rattle.mbqi_terms.specs.declared.sort.Sort.TheVariants as sort
 use Rattle.mbqi_terms.specs.declared.term.ArrayTerm.{ArrayTerm}
 use Rattle.mbqi_terms.specs.declared.term.Term.{Term}
-use Rattle.sexpr_text.proofs.Legality.{both}
 use Rattle.smtlib_terms.specs.declared.meaning.Meaning.{Meaning}
 use Rattle.smtlib_terms.specs.declared.meaning.Meaning.TheVariants as meaning
 use Rattle.smtlib_terms.specs.Meaning.{sort_of, variables_in, variables_of}
@@ -45,7 +44,7 @@ closed_meaning (meaning.Array i e a) is = refl
 quantifier_free_meanings : (script : Script) (scope : List Binder) (next : ℕ) (s : Sort) (ms : List Meaning) → AreMeanings script scope next ms → have_sort s ms ≡ true → list_any is_quantified_meaning ms ≡ false → AreQuantifierFreeMeanings script scope next s ms
 quantifier_free_meanings script scope next s [] are sorts none = tt
 quantifier_free_meanings script scope next s (m ∷ ms) are sorts none =
-    let sort = both (is_sort s (sort_of m)) (have_sort s ms) sorts in
+    let sort = and_parts (is_sort s (sort_of m)) (have_sort s ms) sorts in
     let closed = or_parts (is_quantified_meaning m) (list_any is_quantified_meaning ms) none in
     let own = closed_meaning m closed.0 in
     let here : next + variables_of m ≡ next = omega arith in (

@@ -1,6 +1,7 @@
 -- Each atom of a tree that was read has a text of its kind, so the text of a symbol is one that a symbol may have.
 use Rattle.std.proofs.Common.{◌≡◌, ℕ, Bool, true, ◌&&◌, List, [], ◌∷◌, ◌++◌, map, refl, sym, ap, ◌∙◌, subst}
 use Rattle.std.specs.List.{AllByRecursion, flat_map, list_all}
+use Rattle.std.proofs.lemmas.Bool.{and_parts}
 use Rattle.sexpr_text.specs.Bytes.{is_quoted_content}
 use Rattle.sexpr_text.specs.Forms.{HaveForms, SpellForms, spelled}
 use Rattle.sexpr_text.specs.Legal.{is_legal}
@@ -10,7 +11,7 @@ use Rattle.sexpr_text.specs.declared.token.Token.TheVariants.{Atom, Close, Open}
 use Rattle.sexpr_text.specs.declared.tree.Form.{Form}
 use Rattle.sexpr_text.specs.declared.tree.Sexpr.{Sexpr}
 use Rattle.sexpr_text.specs.declared.tree.Sexpr.TheVariants as tree
-use Rattle.sexpr_text.proofs.Legality.{HaveLegalAtoms, IsLegalAtom, both, legal-Symbol, lexed_gives}
+use Rattle.sexpr_text.proofs.Legality.{HaveLegalAtoms, IsLegalAtom, legal-Symbol, lexed_gives}
 use Rattle.sexpr_text.proofs.ReadBack.{legal-List}
 use Rattle.sexpr_text.proofs.Spelling.{IsAtom, binary_is_atom, by_cases, decimal_is_atom, hex_is_atom, keyword_is_atom, numeral_is_atom, spelled-List, str_is_atom, symbol_is_atom}
 use Rattle.smtlib_terms.specs.Reading.{text_of, trees_in}
@@ -100,7 +101,7 @@ no_trees t none legal = subst (AllByRecursion AreLegal) (sym none) tt
 
 each_legal : (ts : List Sexpr) → list_all is_legal ts ≡ true → AllByRecursion AreLegal ts
 each_legal [] all = tt
-each_legal (t ∷ ts) all = let parts = both (is_legal t) (list_all is_legal ts) all in (parts.0, each_legal ts parts.1)
+each_legal (t ∷ ts) all = let parts = and_parts (is_legal t) (list_all is_legal ts) all in (parts.0, each_legal ts parts.1)
 
 pub trees_legal : (t : Sexpr) → AreLegal t → AllByRecursion AreLegal (trees_in t)
 trees_legal = by_cases HasLegalTrees (record {

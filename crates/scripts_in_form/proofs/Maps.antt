@@ -1,6 +1,7 @@
 -- A pointwise map is read as an array term in form.
 use Rattle.std.proofs.Common.{◌≡◌, ◌+◌, ℕ, suc, Bool, true, false, cond, eqb, List, [], ◌∷◌, length, map, replicate, Option, Some, None, Result, Ok, Err, refl, sym, ap, ◌∙◌, subst}
 use Rattle.std.specs.Prelude.{codes}
+use Rattle.std.proofs.lemmas.Bool.{and_parts}
 use Rattle.mbqi_values.specs.declared.fault.FaultKind.{FaultKind}
 use Rattle.mbqi_values.specs.declared.fault.FaultKind.TheVariants.{BoundArray, Unsupported, WrongCount, WrongSort}
 use Rattle.mbqi_terms.specs.declared.script.Function.{Function}
@@ -13,7 +14,6 @@ use Rattle.mbqi_terms.specs.declared.sort.Sort.TheVariants as sort
 use Rattle.mbqi_terms.specs.declared.term.ArrayTerm.{ArrayTerm}
 use Rattle.mbqi_terms.specs.declared.term.ArrayTerm.TheVariants as array
 use Rattle.mbqi_terms.specs.declared.term.MapOp.TheVariants as op
-use Rattle.sexpr_text.proofs.Legality.{both}
 use Rattle.smtlib_terms.specs.declared.meaning.Bound.{Bound}
 use Rattle.smtlib_terms.specs.declared.meaning.Meaning.{Meaning}
 use Rattle.smtlib_terms.specs.declared.meaning.Meaning.TheVariants as meaning
@@ -129,7 +129,7 @@ over_is : (script : Script) (scope : List Binder) (next : ℕ) (i : Plain) (s : 
 over_is script scope next i s (meaning.Formula f) is e = cc
 over_is script scope next i s (meaning.Term r t) is e = cc
 over_is script scope next i s (meaning.Array j d a) is e =
-    let tests = both (is_plain i j) (is_sort s (plain_sort d)) e in
+    let tests = and_parts (is_plain i j) (is_sort s (plain_sort d)) e in
     let same : j ≡ i = sym (same_plain i j tests.0) in
     record { element = d; term = a; sort = same_sort s (plain_sort d) tests.1; meaning = ap (λ (k : Plain). meaning.Array k d a) same; array = subst (λ (k : Plain). IsArray script scope a k d) same is.array }
 
@@ -151,7 +151,7 @@ over_are script scope next i [] [] are e = record { elements = []; same = refl; 
 over_are script scope next i [] (m ∷ ms) are e = cc
 over_are script scope next i (s ∷ ss) [] are e = cc
 over_are script scope next i (s ∷ ss) (m ∷ ms) are e =
-    let tests = both (is_over i s m) (are_over i ss ms) e in
+    let tests = and_parts (is_over i s m) (are_over i ss ms) e in
     more_over script scope i s ss m ms (over_is script scope next i s m are.0 tests.0) (over_are script scope (next + variables_of m) i ss ms are.1 tests.1)
 
 -- the map of arrays

@@ -2,6 +2,7 @@
 use Rattle.std.proofs.Common.{◌≡◌, ◌≤◌, ◌+◌, ℕ, true, false, cond, eqb, max, List, [], ◌∷◌, length, map, Option, Some, None, Result, Ok, Err, refl, sym, ap, ◌∙◌, subst, arith}
 use Rattle.std.proofs.lemmas.List.Elements.{recursion_from_All}
 use Rattle.std.specs.List.{AllByRecursion}
+use Rattle.std.proofs.lemmas.Bool.{and_parts}
 use Rattle.mbqi_values.specs.declared.fault.FaultKind.{FaultKind}
 use Rattle.mbqi_values.specs.declared.fault.FaultKind.TheVariants.{WrongCount, WrongSort}
 use Rattle.mbqi_terms.specs.declared.script.Function.{Function}
@@ -14,7 +15,6 @@ use Rattle.mbqi_terms.specs.declared.sort.Sort.TheVariants as sort
 use Rattle.mbqi_terms.specs.declared.term.Symbol.TheVariants as symbol
 use Rattle.mbqi_terms.specs.declared.term.Term.{Term}
 use Rattle.mbqi_terms.specs.declared.term.Term.TheVariants as term
-use Rattle.sexpr_text.proofs.Legality.{both}
 use Rattle.smtlib_terms.specs.declared.meaning.Bound.{Bound}
 use Rattle.smtlib_terms.specs.declared.meaning.Meaning.{Meaning}
 use Rattle.smtlib_terms.specs.declared.meaning.Meaning.TheVariants as meaning
@@ -79,7 +79,7 @@ arguments_are script scope next [] [] all values e = record { plains = []; same 
 arguments_are script scope next [] (m ∷ ms) all values e = cc
 arguments_are script scope next (s ∷ ss) [] all values e = cc
 arguments_are script scope next (s ∷ ss) (m ∷ ms) all values e =
-    let tests = both (is_sort s (sort_of m)) (have_sorts ss ms) e in
+    let tests = and_parts (is_sort s (sort_of m)) (have_sorts ss ms) e in
     more_arguments script scope s ss m ms (argument_is script scope next s m all.0 values.0.meaning tests.0) (arguments_are script scope next ss ms all.1 values.1 tests.1)
 
 -- the application of a function, by the sort of its result
