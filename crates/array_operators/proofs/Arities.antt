@@ -1,5 +1,5 @@
 -- Operators of arrays, by their arguments.
-use Rattle.std.proofs.Common.{◌≡◌, List, [], ◌∷◌, Option, None, Some, Result, Ok, Err, refl, ap}
+use Rattle.std.proofs.Common.{◌≡◌, List, [], ◌∷◌, Option, None, Some, Err, refl, ap}
 use Rattle.mbqi_values.specs.declared.fault.FaultKind.TheVariants.{WrongSort}
 use Rattle.mbqi_terms.specs.declared.sort.Plain.{Plain}
 use Rattle.mbqi_terms.specs.declared.sort.Sort.{Sort}

@@ -1,5 +1,5 @@
 -- Pointwise maps by their functions (de Moura and Bjørner 2009).
-use Rattle.std.specs.Prelude.{ℕ, ◌==◌, List, [], ◌∷◌, length, Result, Ok, Err, if◌then◌else◌}
+use Rattle.std.specs.Prelude.{◌==◌, List, [], ◌∷◌, length, Result, Ok, Err, if◌then◌else◌}
 use Rattle.mbqi_values.specs.declared.fault.FaultKind.{FaultKind}
 use Rattle.mbqi_values.specs.declared.fault.FaultKind.TheVariants.{WrongCount, WrongSort}
 use Rattle.mbqi_terms.specs.declared.sort.Plain.{Plain}

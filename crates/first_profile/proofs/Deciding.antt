@@ -13,7 +13,7 @@ use Rattle.mbqi_terms.specs.declared.term.Symbol.TheVariants as symbol
 use Rattle.mbqi_terms.specs.declared.term.Term.{Term}
 use Rattle.mbqi_terms.specs.declared.term.Term.TheVariants as term
 use Rattle.ground_form.specs.Profile.{the_sort, IsArgument, IsAtom, IsClause, IsConstantTerm, IsLiteral, IsRule, for_all, variables_from}
-use Rattle.ground_form.proofs.Numbers.{same_declared}
+use Rattle.ground_form.proofs.Numbers.{length_variables, same_declared}
 use Rattle.ground_form.proofs.Truths.{any_literals, out-any, out-atom, out-not}
 use Rattle.first_profile.specs.Parts.{AreVariables, NamesPredicate}
 
@@ -52,10 +52,6 @@ any_parts functions IsArg f literals e = (
 )
 
 -- the variables of a quantifier, by their places
-pub variables_length : (place n : ℕ) → length (variables_from place n) ≡ n
-variables_length place zero = refl
-variables_length place (suc n) = ap suc (variables_length (place + 1) n)
-
 variable_from : (place n i : ℕ) (d : Binder) → i < n → get_or (variables_from place n) i d ≡ record { place = place + i; sort = the_sort }
 variable_from place zero i d h = absurd (omega arith)
 variable_from place (suc n) zero d h = let same : place ≡ place + 0 = omega arith in ap (λ p. record { place = p; sort = the_sort }) same
@@ -124,7 +120,7 @@ quantified : (functions : List Function) (f : Formula) (binders : List Binder) (
 quantified functions f binders clause e zero g is over = absurd (no_forall functions (IsArgument functions 0) g binders clause over (sym is ∙ e))
 quantified functions f binders clause e (suc n) g is over =
     let same = same_forall binders (variables_from 0 (suc n)) clause g (sym e ∙ is) in
-    let number : length binders ≡ suc n = ap length same.0 ∙ variables_length 0 (suc n) in
+    let number : length binders ≡ suc n = ap length same.0 ∙ length_variables 0 (suc n) in
     let body : IsClauseOver functions (suc n) clause = subst (IsClauseOver functions (suc n)) (sym same.1) over in (
       record { some = omega (arith, number); all = same.0 ∙ ap (variables_from 0) (sym number) },
       subst (λ k. IsClauseOver functions k clause) (sym number) body,

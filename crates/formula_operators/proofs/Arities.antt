@@ -1,6 +1,6 @@
 -- Connectives of a fixed number of arguments, by their arguments.
 use Rattle.std.proofs.Common.{◌≡◌, ℕ, false, List, [], ◌∷◌, length, Result, Ok, Err, refl, arith}
-use Rattle.std.specs.Prelude.{◌==◌, zero, suc, if◌then◌else◌}
+use Rattle.std.specs.Prelude.{◌==◌, suc, if◌then◌else◌}
 use Rattle.mbqi_values.specs.declared.fault.FaultKind.{FaultKind}
 use Rattle.mbqi_values.specs.declared.fault.FaultKind.TheVariants.{Unsupported}
 use Rattle.mbqi_terms.specs.declared.formula.Formula.{Formula}

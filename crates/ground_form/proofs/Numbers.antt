@@ -22,9 +22,14 @@ use Rattle.mbqi_terms.proofs.Trees.{get_seam, get_take, take-push}
 use Rattle.mbqi_terms.proofs.Zips.{zip_length, zip_push}
 use Rattle.ground_form.specs.Atoms.{IsOver, IsPool, formulas_in}
 use Rattle.ground_form.specs.Numbering.{Extends, IsNumbered, IsNumberOf, IsAtomOf, IsLitOf, IsClauseOf}
-use Rattle.ground_form.specs.Profile.{IsAtom, IsGround, constants_of, seed}
+use Rattle.ground_form.specs.Profile.{IsAtom, IsGround, constants_of, seed, variables_from}
 use Rattle.ground_form.specs.declared.atoms.GroundAtom.{GroundAtom}
 use Rattle.ground_form.specs.declared.pool.Pool.{Pool}
+
+-- how many variables there are from a place on
+pub length_variables : (place n : ℕ) → length (variables_from place n) ≡ n
+length_variables place zero = refl
+length_variables place (suc n) = ap suc (length_variables (place + 1) n)
 
 -- the declared function that a term applies and its arguments are one
 pub same_declared : (f g : ℕ) (ss ts : List Term) → term.Apply (symbol.Declared f) ss ≡ term.Apply (symbol.Declared g) ts → (f ≡ g) × (ss ≡ ts)

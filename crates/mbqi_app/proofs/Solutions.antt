@@ -1,6 +1,5 @@
 -- What `solve` takes it doesn't refuse, and it refuses in one way.
 use Rattle.std.proofs.Common.{◌≡◌, ℕ, List, sym, subst, ◌∙◌, inl, inr}
-use Rattle.std.specs.Prelude.{◌⊎◌}
 use Rattle.mbqi_values.specs.declared.fault.Refusal.{Refusal}
 use Rattle.mbqi_terms.specs.declared.script.Script.{Script}
 use Rattle.ground_form.specs.Profile.{IsElementary}

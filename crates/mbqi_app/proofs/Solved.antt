@@ -1,6 +1,6 @@
 -- What a command answers for its file, as the answer to the words.
-use Rattle.std.proofs.Common.{◌≡◌, ℕ, ◌≤◌, ◌<◌, List, [], ◌∷◌, ◌++◌, length, take, refl, sym, ap, subst, ◌∙◌, arith, inl, inr, append-nil}
-use Rattle.std.specs.Prelude.{◌⊎◌, Option, None, Some}
+use Rattle.std.proofs.Common.{◌≡◌, ℕ, ◌≤◌, List, [], ◌∷◌, ◌++◌, length, refl, sym, ap, subst, ◌∙◌, arith, inl, inr, append-nil}
+use Rattle.std.specs.Prelude.{Option, None, Some}
 use Rattle.mbqi_values.specs.declared.status.Status.{Status}
 use Rattle.mbqi_edge.specs.Files.{Files, Has}
 use Rattle.mbqi_edge.specs.Told.{with_more}

@@ -5,7 +5,6 @@ use Rattle.mbqi_values.specs.declared.fault.FaultKind.TheVariants.{Unsupported}
 use Rattle.mbqi_values.specs.declared.fault.Refusal.{Refusal}
 use Rattle.mbqi_values.specs.declared.status.Status.{Status}
 use Rattle.mbqi_values.specs.declared.status.Status.TheVariants.{Sat, Unsat, Unknown, Done, No, Words, ScriptRefused, ReadFault, TooLong, WriteFault, Memory, TooWide, ModelRefused, RefutationRefused}
-use Rattle.mbqi_edge.specs.Faults.{Rose}
 use Rattle.mbqi_edge.specs.Files.{Files, Has, Tells}
 use Rattle.mbqi_edge.specs.Told.{with_more}
 use Rattle.mbqi_terms.specs.declared.script.Script.{Script}

@@ -1,6 +1,6 @@
 -- Each rule holds in the shown part of a model where the first instances are true in the model, and the instances at pool terms of the
 -- rules with variables.
-use Rattle.std.proofs.Common.{◌≡◌, ℕ, zero, suc, ◌+◌, ◌<◌, true, List, [], ◌∷◌, length, refl, sym, ap, subst, ◌∙◌, arith}
+use Rattle.std.proofs.Common.{◌≡◌, ℕ, zero, suc, ◌+◌, ◌<◌, true, List, [], ◌∷◌, length, sym, ap, subst, ◌∙◌, arith}
 use Rattle.std.specs.Prelude.{All, Contains, Some, slice_get}
 use Rattle.std.specs.List.{AllByRecursion, list_all}
 use Rattle.std.proofs.lemmas.Bool.{and_parts}
@@ -21,6 +21,7 @@ use Rattle.function_model.specs.ValueOf.{Point, value_of}
 use Rattle.function_model.specs.declared.model.FunctionModel.{FunctionModel}
 use Rattle.ground_form.specs.Atoms.{formulas_in}
 use Rattle.ground_form.specs.Profile.{IsArgument, IsClause, IsElementary, IsRule, for_all, the_sort, variables_from}
+use Rattle.ground_form.proofs.Numbers.{length_variables}
 use Rattle.rule_form.specs.Rules.{IsChoice, IsOpen, assertion_at, clause_at, clause_of, first_from, first_with, formula_of, line_of, pool_terms, term_at, variables_of}
 use Rattle.rule_form.specs.Substitution.{put_into, put_into_formula}
 use Rattle.rule_form.specs.declared.choice.Choice.{Choice}
@@ -29,11 +30,6 @@ use Rattle.rule_form.proofs.Shapes.{clause_forall, variables_clause, variables_f
 use Rattle.mbqi_loop.proofs.Holding.{clause_holds, holds_for_all}
 use Rattle.mbqi_loop.proofs.Points.{Names, for_each}
 use Rattle.mbqi_loop.proofs.Putting.{argument_value, clause_same, constant_value, nothing_put, terms_put}
-
--- how many variables a rule has, and its clause
-length_variables : (place n : ℕ) → length (variables_from place n) ≡ n
-length_variables place zero = refl
-length_variables place (suc n) = ap suc (length_variables (place + 1) n)
 
 -- each value of the sort is that of a term of the pool
 abbrev pub IsNamed : Script → FunctionModel → Type 0

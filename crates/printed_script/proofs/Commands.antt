@@ -18,7 +18,7 @@ use Rattle.sexpr_text.specs.declared.tree.Sexpr.TheVariants as tree
 use denote.Hole.Carrier.{hidden}
 use Rattle.script_text.specs.Text.{script_text}
 use Rattle.smtlib_decls.specs.Commands as commands
-use Rattle.smtlib_decls.specs.Commands.{asserted, by_command, command_meant, command_of, headed, renamed, signature_command, signature_declared, sorts_read, with_assertion}
+use Rattle.smtlib_decls.specs.Commands.{asserted, by_command, command_meant, command_of, headed, renamed, signature_declared, with_assertion}
 use Rattle.smtlib_decls.specs.Means.{Means}
 use Rattle.smtlib_decls.specs.Scripts.{behind_form, is_exit, is_exit_word, nothing, script_from, script_of}
 use Rattle.smtlib_decls.specs.declared.command.Command.{Command}

@@ -1,6 +1,6 @@
 -- The instance of a rule at ground terms is an instance of its assertion.
 use Rattle.std.proofs.Common.{◌≡◌, ℕ, zero, suc, ◌+◌, ◌<◌, Bool, true, false, List, [], ◌∷◌, ◌++◌, length, map, refl, sym, ap, subst, ◌∙◌, inl, inr, arith, rules, cond, append-nil, ◌||◌}
-use Rattle.std.specs.Prelude.{◌⊎◌, ◌==◌, All, Some, slice_get, slice_index_or}
+use Rattle.std.specs.Prelude.{◌==◌, All, Some, slice_get, slice_index_or}
 use Rattle.std.specs.List.{AllZip, flat_map}
 use Rattle.std.proofs.lemmas.List.Elements.{All-head, All-tail}
 use Rattle.std.specs.Option.{option_map}
@@ -13,7 +13,7 @@ use denote.Hole.Carrier.{hidden}
 use Rattle.mbqi_terms.specs.declared.formula.Formula.TheFolds.{fold-roll-Formula}
 use Rattle.mbqi_terms.specs.declared.formula.Formula.TheOpen.{Formula-F}
 use Rattle.mbqi_terms.specs.declared.formula.Formula.TheVariants as formula
-use Rattle.mbqi_terms.specs.declared.formula.Formula.TheVariants.{rolls-Any, rolls-Forall}
+use Rattle.mbqi_terms.specs.declared.formula.Formula.TheVariants.{rolls-Any}
 use Rattle.mbqi_terms.specs.declared.script.Assertion.{Assertion}
 use Rattle.mbqi_terms.specs.declared.script.Function.{Function}
 use Rattle.mbqi_terms.specs.declared.script.Script.{Script}
@@ -21,17 +21,14 @@ use Rattle.mbqi_terms.specs.declared.sort.Binder.{Binder}
 use Rattle.mbqi_terms.specs.declared.term.ArrayTerm.TheOpen.{Term-F}
 use Rattle.mbqi_terms.specs.declared.term.Symbol.{Symbol}
 use Rattle.mbqi_terms.specs.declared.term.Symbol.TheVariants as symbol
-use Rattle.mbqi_terms.specs.declared.term.Symbol as symbols
-use Rattle.mbqi_terms.specs.declared.term.Term as terms
 use Rattle.mbqi_terms.specs.declared.term.Term.{Term, out-Term}
 use Rattle.mbqi_terms.specs.declared.term.Term.TheVariants as term
 use Rattle.mbqi_terms.proofs.Levels.{out-apply, out-declared, out-seed}
 use Rattle.ground_form.specs.Profile.{IsArgument, IsClause, IsGround, IsLiteral, IsRule, constant, seed, for_all, variables_from, the_sort}
 use Rattle.rule_form.specs.Instance.{Instantiation, InstanceAt, EachInstance, HasNoVariable, IsInstance, IsTermFor, below_universal, is_bound, lists_of, start, term_for, universal_layer, universals_at}
-use Rattle.rule_form.specs.Rules.{term_at, clause_at, clause_of, variables_of}
+use Rattle.rule_form.specs.Rules.{term_at, clause_at}
 use Rattle.rule_form.specs.Substitution.{put_into, put_into_formula}
 use Rattle.rule_form.proofs.Putting.{put_atom, put_not, put_any, alike_atom}
-use Rattle.rule_form.proofs.Shapes.{rule_clause, rule_variables}
 
 -- one instance of each of a list of formulas
 abbrev EachOf : Instantiation → List Formula → List Formula → Type 0

@@ -1,5 +1,5 @@
 -- What an assertion of the profile is made of.
-use Rattle.std.proofs.Common.{◌≡◌, ℕ, zero, suc, ◌+◌, List, length, refl, sym, ap, ◌∙◌, inl, inr}
+use Rattle.std.proofs.Common.{◌≡◌, ℕ, zero, suc, List, length, refl, sym, ap, ◌∙◌, inl, inr}
 use Rattle.mbqi_terms.specs.declared.formula.Formula.{Formula}
 use Rattle.mbqi_terms.specs.declared.formula.Formula.TheBlock.{hidden-the_row-Formula-0, hidden-the_row-Formula-1}
 use denote.Hole.Carrier.{hidden}
@@ -8,6 +8,7 @@ use Rattle.mbqi_terms.specs.declared.script.Function.{Function}
 use Rattle.mbqi_terms.specs.declared.sort.Binder.{Binder}
 use Rattle.mbqi_terms.specs.declared.term.Term.{Term}
 use Rattle.ground_form.specs.Profile.{IsArgument, IsClause, IsLiteral, IsRule, for_all, variables_from}
+use Rattle.ground_form.proofs.Numbers.{length_variables}
 use Rattle.rule_form.specs.Rules.{variables_of, clause_of}
 
 -- a clause has no variables of its own
@@ -54,10 +55,6 @@ module _ (functions : List Function) (IsArg : Term → Type 0) where
   pub clause_clause : (f : Formula) → IsClause functions IsArg f → clause_of f ≡ f
   clause_clause f (inl one) = clause_literal f one
   clause_clause f (inr any) = ap clause_of any.1 ∙ (clause_any any.0 ∙ sym any.1)
-
-  length_variables : (place n : ℕ) → length (variables_from place n) ≡ n
-  length_variables place zero = refl
-  length_variables place (suc n) = ap suc (length_variables (place + 1) n)
 
   pub variables_for_all : (n : ℕ) (f : Formula) → IsClause functions IsArg f → variables_of (for_all n f) ≡ n
   variables_for_all zero f is = variables_clause f is

@@ -1,7 +1,7 @@
 -- Rules of the first profile and their instances over a pool of ground terms (this project's own, after Ge and de Moura 2009). Each
 -- assertion is one rule.
-use Rattle.std.specs.Prelude.{◌≡◌, ℕ, zero, suc, ◌+◌, ◌*◌, ◌≤◌, Bool, true, List, [], ◌∷◌, ◌++◌, length, map, All, Contains, Option, None, Some, slice_get, slice_index_or}
-use Rattle.mbqi_terms.specs.declared.formula.Formula.{Formula, Row_of-Formula, end_of-Formula, more_of-Formula}
+use Rattle.std.specs.Prelude.{◌≡◌, ℕ, zero, suc, ◌+◌, ◌*◌, ◌≤◌, true, List, [], ◌∷◌, ◌++◌, length, map, All, Contains, Option, None, Some, slice_get, slice_index_or}
+use Rattle.mbqi_terms.specs.declared.formula.Formula.{Formula, end_of-Formula, more_of-Formula}
 use Rattle.mbqi_terms.specs.declared.formula.Formula.TheVariants.{Forall'}
 use Rattle.mbqi_terms.specs.declared.formula.Formula.TheVariants as formula
 use Rattle.mbqi_terms.specs.declared.instance.InstanceLine.{InstanceLine}

@@ -1,5 +1,5 @@
 -- How the trees in a tree read, by the list of its trees.
-use Rattle.std.proofs.Common.{◌≡◌, List, [], ◌∷◌, map, refl, ap}
+use Rattle.std.proofs.Common.{◌≡◌, List, ◌∷◌, map, refl, ap}
 use Rattle.sexpr_text.specs.declared.tree.Sexpr.{Sexpr, Row_of-Sexpr, end_of-Sexpr, more_of-Sexpr}
 use Rattle.sexpr_text.specs.declared.tree.Sexpr.TheVariants as tree
 use Rattle.smtlib_terms.specs.Reading.{Reading, inner, inner_of, readings, readings_of, side, trees_in, trees_of}

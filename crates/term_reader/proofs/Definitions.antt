@@ -1,5 +1,5 @@
 -- A macro's definition, by what it describes and what is checked of it.
-use Rattle.std.proofs.Common.{◌≡◌, ℕ, Bool, true, false, List, [], ◌∷◌, length, Result, Ok, Err, refl, ap, sym, ◌∙◌, if◌then◌else◌}
+use Rattle.std.proofs.Common.{◌≡◌, ℕ, Bool, true, false, List, [], ◌∷◌, Result, Ok, Err, refl, if◌then◌else◌}
 use Rattle.mbqi_values.specs.declared.fault.FaultKind.{FaultKind}
 use Rattle.mbqi_values.specs.declared.fault.FaultKind.TheVariants.{BadForm, ReservedName, Twice, WrongSort}
 use Rattle.mbqi_terms.specs.declared.sort.Sort.{Sort}
@@ -7,10 +7,9 @@ use Rattle.sexpr_text.specs.declared.tree.Sexpr.{Sexpr}
 use Rattle.smtlib_terms.specs.declared.meaning.Meaning.{Meaning}
 use Rattle.smtlib_terms.specs.declared.names.Macro.{Macro}
 use Rattle.smtlib_terms.specs.declared.names.Parameter.{Parameter}
-use Rattle.smtlib_terms.specs.Declaring.{Declarations, declarable, defined, definition_of, definition_read, is_function, macro_defined, parameters_of, with_definition}
+use Rattle.smtlib_terms.specs.Declaring.{Declarations, defined, definition_of, definition_read, is_function, parameters_of, with_definition}
 use Rattle.smtlib_terms.specs.Meaning.{sort_of}
 use Rattle.smtlib_terms.specs.Names.{◌>>=◌, is_sort, sort_meant}
-use Rattle.smtlib_terms.specs.Reading.{trees_in}
 use Rattle.smtlib_terms.specs.Words.{is_reserved}
 use Rattle.term_reader.specs.Defining.{body_meant, definition_checked, macro_described, macro_read, may_define}
 

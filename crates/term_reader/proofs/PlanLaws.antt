@@ -1,19 +1,18 @@
 -- A list by its plan.
-use Rattle.std.proofs.Common.{◌≡◌, ℕ, ◌+◌, Bool, true, false, List, [], ◌∷◌, ◌++◌, length, map, Result, Ok, Err, refl, ap, sym, ◌∙◌, if◌then◌else◌}
+use Rattle.std.proofs.Common.{◌≡◌, ℕ, ◌+◌, Bool, true, false, List, [], ◌∷◌, ◌++◌, map, Result, Ok, Err, refl, ap, sym, ◌∙◌, if◌then◌else◌}
 use Rattle.mbqi_values.specs.declared.fault.FaultKind.{FaultKind}
-use Rattle.mbqi_values.specs.declared.fault.FaultKind.TheVariants.{BadForm, Unsupported, WrongCount}
+use Rattle.mbqi_values.specs.declared.fault.FaultKind.TheVariants.{BadForm}
 use Rattle.mbqi_terms.specs.declared.sort.Sort.{Sort}
 use Rattle.sexpr_text.specs.declared.tree.Sexpr.{Sexpr}
 use Rattle.sexpr_text.specs.declared.tree.Sexpr.TheVariants as tree
 use Rattle.smtlib_terms.specs.declared.meaning.Meaning.{Meaning}
 use Rattle.smtlib_terms.specs.declared.meaning.Side.{Side}
-use Rattle.smtlib_terms.specs.declared.meaning.Side.TheVariants.{Meant}
 use Rattle.smtlib_terms.specs.declared.names.Binding.{Binding}
 use Rattle.smtlib_terms.specs.declared.names.Variable.{Variable}
 use Rattle.smtlib_terms.specs.declared.word.Word.{Word}
 use Rattle.smtlib_terms.specs.declared.word.Word.TheVariants as word
 use Rattle.smtlib_terms.specs.Names.{◌>>=◌, Signature, sort_meant}
-use Rattle.smtlib_terms.specs.Operators.{applied, constant, meant, plainly, subtraction}
+use Rattle.smtlib_terms.specs.Operators.{applied, constant, meant, subtraction}
 use Rattle.smtlib_terms.specs.Applying.{mapped}
 use Rattle.smtlib_terms.specs.Reading.{Head, Named, Constant, Mapped, NoHead, Part, are_binders, body_read, headed_read, head_of, is_some_symbol, let_read, list_head, list_read, mapped_head, named_read, part_of, parts_read, quantifier_binders, quantifier_read, relation_read, shallow_side, sides_read, text_of, trees_in}
 use Rattle.smtlib_terms.specs.Words.{word_of}

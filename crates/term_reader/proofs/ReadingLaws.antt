@@ -1,5 +1,5 @@
 -- What a tree means, in the steps of its reading.
-use Rattle.std.proofs.Common.{◌≡◌, ℕ, Bool, true, false, List, [], ◌∷◌, map, codes, Option, None, Some, Result, Ok, Err, refl, ap, sym, subst, ◌∙◌, if◌then◌else◌}
+use Rattle.std.proofs.Common.{◌≡◌, ℕ, Bool, true, false, List, [], ◌∷◌, map, codes, Option, None, Some, Result, Ok, refl, ap, sym, subst, ◌∙◌, if◌then◌else◌}
 use Rattle.mbqi_values.specs.declared.fault.FaultKind.{FaultKind}
 use Rattle.mbqi_values.specs.declared.fault.ReadError.{ReadError}
 use Rattle.mbqi_values.specs.declared.fault.ReadError.TheVariants.{Refused, Memory}

@@ -1,5 +1,5 @@
 -- How a list is read behind its head. No public clause cites it.
-use Rattle.std.specs.Prelude.{ℕ, ◌+◌, ◌≡◌, Bool, true, false, ◌&&◌, List, [], ◌∷◌, ◌++◌, length, map, codes, Option, None, Some, Result, Ok, Err, if◌then◌else◌}
+use Rattle.std.specs.Prelude.{ℕ, ◌+◌, Bool, true, false, ◌&&◌, List, [], ◌∷◌, ◌++◌, length, map, codes, Option, None, Some, Result, Ok, Err, if◌then◌else◌}
 use Rattle.mbqi_values.specs.declared.fault.FaultKind.{FaultKind}
 use Rattle.mbqi_values.specs.declared.fault.FaultKind.TheVariants.{BadForm, NotDifference, Unsupported, WrongCount}
 use Rattle.sexpr_text.specs.declared.tree.Sexpr.{Sexpr}
@@ -13,10 +13,10 @@ use Rattle.smtlib_terms.specs.declared.word.Word.TheVariants as word
 use Rattle.smtlib_terms.specs.declared.meaning.Bound.TheVariants.{Value}
 use Rattle.smtlib_terms.specs.Applying.{fitting, mapped, name_applied}
 use Rattle.smtlib_terms.specs.Names.{◌>>=◌, Reader, Signature, is_symbol, sort_meant}
-use Rattle.smtlib_terms.specs.Operators.{applied, constant, is_relation, meant, plainly, subtraction, two_sides}
+use Rattle.smtlib_terms.specs.Operators.{applied, constant, is_relation, meant, subtraction}
 use Rattle.smtlib_terms.specs.Steps.{behind}
 use Rattle.smtlib_terms.specs.Words.{is_text}
-use Rattle.smtlib_terms.specs.Reading.{Head, Named, Constant, Mapped, NoHead, Part, are_binders, bindable, binder_name, binding_of, body_read, meant_by, first_read, head_of, parts_read, quantified_meant, is_some_symbol, quantifier_binders, sides_read, text_of, trees_in, values_read}
+use Rattle.smtlib_terms.specs.Reading.{Head, Named, Constant, Mapped, NoHead, Part, are_binders, bindable, binder_name, binding_of, body_read, meant_by, first_read, parts_read, quantified_meant, is_some_symbol, quantifier_binders, sides_read, text_of, trees_in, values_read}
 use Rattle.term_reader.specs.declared.plan.Maker as maker_type
 use Rattle.term_reader.specs.declared.plan.Maker.TheVariants as maker
 use Rattle.term_reader.specs.declared.plan.Plan as plan_type

@@ -1,9 +1,9 @@
 -- Arguments and atoms of a clause at a tuple of pool terms.
-use Rattle.std.proofs.Common.{◌≡◌, ℕ, zero, suc, ◌<◌, Bool, true, false, List, [], ◌∷◌, length, map, refl, sym, ap, subst, ◌∙◌, inl, inr, arith}
-use Rattle.std.specs.Prelude.{◌⊎◌, All, Some, slice_get, slice_index, slice_index_or}
+use Rattle.std.proofs.Common.{◌≡◌, ℕ, zero, suc, ◌<◌, List, [], ◌∷◌, length, map, refl, sym, ap, subst, ◌∙◌, inl, inr, arith}
+use Rattle.std.specs.Prelude.{All, slice_index, slice_index_or}
 use Rattle.std.proofs.lemmas.List.{length-map}
 use Rattle.std.proofs.lemmas.List.Elements.{All-head, All-tail, All-nil, All-cons}
-use Rattle.std.proofs.lemmas.Option.{get_or_from_slice_get, slice_get_read, slice_get_within}
+use Rattle.std.proofs.lemmas.Option.{get_or_from_slice_get, slice_get_within}
 use Rattle.mbqi_terms.specs.Store.{tree_at}
 use Rattle.mbqi_terms.specs.declared.script.Function.{Function}
 use Rattle.mbqi_terms.specs.declared.term.Symbol.TheVariants as symbol
@@ -13,9 +13,8 @@ use Rattle.mbqi_terms.specs.declared.term.ArrayTerm.TheOpen.{Term-F}
 use Rattle.mbqi_terms.specs.declared.term_id.TermId.{TermId}
 use Rattle.mbqi_terms.proofs.Levels.{out-apply, out-declared, out-var}
 use Rattle.ground_form.specs.Atoms.{IsOver, IsPool, atom_tree}
-use Rattle.ground_form.specs.Numbering.{IsNumbered, number_of_symbol}
+use Rattle.ground_form.specs.Numbering.{number_of_symbol}
 use Rattle.ground_form.specs.Profile.{IsArgument, IsAtom, constant, seed}
-use Rattle.ground_form.specs.declared.atoms.GroundAtom.{GroundAtom}
 use Rattle.ground_form.specs.declared.pool.Pool.{Pool}
 use Rattle.ground_form.proofs.Numbers.{same_declared}
 use Rattle.rule_form.specs.Rules.{term_at}

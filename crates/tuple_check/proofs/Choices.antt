@@ -1,35 +1,24 @@
 -- The choices at which rules fail.
-use Rattle.std.proofs.Common.{◌≡◌, ℕ, zero, suc, ◌+◌, ◌<◌, Bool, true, false, not, List, [], ◌∷◌, ◌++◌, length, map, if◌then◌else◌, cond, refl, sym, ap, subst, ◌∙◌, inl, inr, arith}
-use Rattle.std.specs.Prelude.{◌⊎◌, ◌≤◌, All, Contains, Some, slice_get, slice_index_or}
-use Rattle.std.specs.List.{AllByRecursion}
-use Rattle.std.proofs.lemmas.List.{length-map}
-use Rattle.std.proofs.lemmas.List.Elements.{All-head, All-tail, All-nil, All-cons, All-append}
-use Rattle.std.proofs.lemmas.Option.{slice_get_cases, slice_get_read, slice_get_within, slice_get-get_or, get_or_from_slice_get, same_Some}
+use Rattle.std.proofs.Common.{◌≡◌, ℕ, zero, suc, ◌+◌, ◌<◌, Bool, true, false, List, [], ◌∷◌, length, map, cond, refl, sym, ap, ◌∙◌, arith}
+use Rattle.std.specs.Prelude.{◌≤◌, All, Some, slice_get}
+use Rattle.std.proofs.lemmas.List.Elements.{All-head, All-tail, All-nil, All-cons}
+use Rattle.std.proofs.lemmas.Option.{same_Some}
 use Rattle.mbqi_terms.specs.Distinct.{AreDistinct}
 use Rattle.mbqi_terms.specs.declared.formula.Formula.{Formula}
-use Rattle.mbqi_terms.specs.declared.script.Assertion.{Assertion}
 use Rattle.mbqi_terms.specs.declared.script.Function.{Function}
-use Rattle.mbqi_terms.specs.declared.script.Script.{Script}
 use Rattle.mbqi_terms.specs.declared.term.ArrayTerm.TheOpen.{Symbol-F, Term-F}
 use Rattle.mbqi_terms.specs.declared.term.Symbol.{out-Symbol}
 use Rattle.mbqi_terms.specs.declared.term.Symbol.TheVariants as symbol
 use Rattle.mbqi_terms.specs.declared.term.Term.{Term, out-Term}
 use Rattle.mbqi_terms.proofs.Levels.{out-apply, out-declared, out-seed}
-use Rattle.mbqi_terms.proofs.Places.{all_at}
-use Rattle.function_model.specs.TruthOf.{Meanings, truth_of}
-use Rattle.ground_form.specs.Atoms.{Decides, IsPool}
-use Rattle.ground_form.specs.Profile.{IsArgument, IsClause, IsElementary, IsRule, constant, constants_from, constants_of, is_constant, seed}
+use Rattle.ground_form.specs.Profile.{constant, constants_from, constants_of, is_constant, seed}
 use Rattle.ground_form.specs.declared.atoms.GroundAtom.{GroundAtom}
 use Rattle.ground_form.specs.declared.pool.Pool.{Pool}
 use Rattle.ground_form.proofs.Numbers.{same_declared}
-use Rattle.rule_form.specs.Rules.{IsChoice, IsOpen, assertion_at, clause_at, clause_of, formula_of, line_of, pool_terms, variables_of}
-use Rattle.rule_form.specs.declared.choice.Choice.{Choice}
-use Rattle.rule_form.proofs.Shapes.{rule_clause, rule_variables}
-use Rattle.tuple_check.specs.Failing.{choice_of, failing_from, failing_of, fails_at, term_in, truth_at}
+use Rattle.rule_form.specs.Rules.{pool_terms}
+use Rattle.tuple_check.specs.Failing.{choice_of, failing_of, fails_at}
 use Rattle.tuple_check.specs.Tuples.{tuples_where}
-use Rattle.tuple_check.proofs.Arguments.{at_default}
-use Rattle.tuple_check.proofs.Truths.{clause_truth}
-use Rattle.tuple_check.proofs.TupleLists.{IsTuple, are_tuples, at_place, distinct_append, distinct_nil, distinct_one, front_nothing, none_passes, rest_nothing, tuples_distinct}
+use Rattle.tuple_check.proofs.TupleLists.{at_place, distinct_append, distinct_nil, distinct_one}
 
 -- the failing choices of a rule with variables
 pub failing_some : (pool : Pool) (atoms : List GroundAtom) (truths : List Bool) (rule n : ℕ) (f : Formula) → 0 < n

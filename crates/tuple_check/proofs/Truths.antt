@@ -1,8 +1,7 @@
 -- The truth of a clause at a tuple is that of its instance, in each valuation that has the truths of the atoms.
-use Rattle.std.proofs.Common.{◌≡◌, ℕ, zero, suc, ◌<◌, Bool, true, false, true≢false, not, ◌&&◌, ◌||◌, nat_eq, List, [], ◌∷◌, length, map, cond, refl, sym, ap, ◌∙◌, inl, inr, arith, rules}
+use Rattle.std.proofs.Common.{◌≡◌, ℕ, zero, suc, ◌<◌, Bool, true, false, true≢false, not, ◌||◌, List, [], ◌∷◌, length, map, cond, refl, sym, ap, ◌∙◌, inl, inr, arith, rules}
 use Rattle.std.specs.Prelude.{◌⊎◌, All, Contains, slice_index_or}
 use Rattle.std.specs.List.{list_any}
-use Rattle.std.proofs.lemmas.Bool.{and_parts}
 use Rattle.std.proofs.lemmas.List.Elements.{All-head, All-tail}
 use Rattle.mbqi_values.specs.declared.value.Value.TheVariants.{Truth}
 use Rattle.mbqi_terms.specs.declared.formula.Formula as formulas
@@ -12,14 +11,14 @@ use Rattle.mbqi_terms.specs.declared.formula.Formula.TheOpen.{Formula-F}
 use Rattle.mbqi_terms.specs.declared.formula.Formula.TheVariants as formula
 use Rattle.mbqi_terms.specs.declared.script.Function.{Function}
 use Rattle.mbqi_terms.specs.declared.term.Term.{Term}
-use Rattle.mbqi_terms.specs.declared.term_id.TermId.{TermId}
 use Rattle.function_model.specs.TruthOf.{Meanings, truth_of}
 use Rattle.function_model.specs.TruthOf.{truth_layer as meaning_layer}
 use Rattle.function_model.specs.ValueOf.{is_true}
-use Rattle.ground_form.specs.Atoms.{Decides, IsOver, IsPool, atom_tree, same_atom, same_ids, truth_in}
+use Rattle.ground_form.specs.Atoms.{Decides, IsOver, IsPool, atom_tree, same_atom, truth_in}
 use Rattle.ground_form.specs.Profile.{IsArgument, IsAtom, IsClause, IsLiteral}
 use Rattle.ground_form.specs.declared.atoms.GroundAtom.{GroundAtom}
 use Rattle.ground_form.specs.declared.pool.Pool.{Pool}
+use Rattle.ground_form.proofs.AtomTest.{own_atom, same_atoms, same_test}
 use Rattle.rule_form.specs.Rules.{clause_at, term_at}
 use Rattle.rule_form.specs.Substitution.{put_into, put_into_formula}
 use Rattle.rule_form.proofs.Putting.{put_any, put_atom, put_not}
@@ -27,35 +26,11 @@ use Rattle.tuple_check.specs.Failing.{atom_at_tuple, term_in, truth_at, truth_la
 use Rattle.tuple_check.proofs.Arguments.{atom_over, atom_tree_at}
 
 -- the test of atoms tells whether they are one
-same_number : (m n : ℕ) → nat_eq m n ≡ true → m ≡ n
-same_number m n e = search rules
-
-own_number : (n : ℕ) → nat_eq n n ≡ true
-own_number n = search (rules, arith)
-
-equal_ids : (ms ns : List TermId) → same_ids ms ns ≡ true → ms ≡ ns
-equal_ids [] [] e = refl
-equal_ids [] (n ∷ ns) e = cc
-equal_ids (m ∷ ms) [] e = cc
-equal_ids (m ∷ ms) (n ∷ ns) e =
-    let parts = and_parts (nat_eq m.0 n.0) (same_ids ms ns) e in
-    let p = same_number m.0 n.0 parts.0 in
-    let q = equal_ids ms ns parts.1 in
-    λ i. record { 0 = p i } ∷ q i
-
 equal_atoms : (a b : GroundAtom) → same_atom a b ≡ true → a ≡ b
-equal_atoms a b e =
-    let parts = and_parts (nat_eq a.predicate b.predicate) (same_ids a.args b.args) e in
-    let p = same_number a.predicate b.predicate parts.0 in
-    let q = equal_ids a.args b.args parts.1 in
-    λ i. record { predicate = p i; args = q i }
+equal_atoms a b e = same_atoms a b (same_test a b ∙ e)
 
-own_ids : (ms : List TermId) → same_ids ms ms ≡ true
-own_ids [] = refl
-own_ids (m ∷ ms) = ap (λ b. b && same_ids ms ms) (own_number m.0) ∙ own_ids ms
-
-own_atom : (a : GroundAtom) → same_atom a a ≡ true
-own_atom a = ap (λ b. b && same_ids a.args a.args) (own_number a.predicate) ∙ own_ids a.args
+is_own_atom : (a : GroundAtom) → same_atom a a ≡ true
+is_own_atom a = sym (same_test a a) ∙ own_atom a
 
 -- an atom stands at a place and has its truth, or it stands nowhere and is false
 abbrev Stands : GroundAtom → List GroundAtom → List Bool → Type 0
@@ -77,7 +52,7 @@ stands atom (a ∷ atoms) (t ∷ truths) e = by (same_atom atom a) refl (stands 
         inr (not_there missing.0, ap (λ b. cond b t (truth_in atoms truths atom)) p ∙ missing.1)
       where
         at_place : (Contains atoms atom → ⊥) → (k : ℕ) → k < length (a ∷ atoms) → slice_index_or (a ∷ atoms) k atom ≡ atom → ⊥
-        at_place none zero h s = true≢false (sym (ap (same_atom atom) s ∙ own_atom atom) ∙ p)
+        at_place none zero h s = true≢false (sym (ap (same_atom atom) s ∙ is_own_atom atom) ∙ p)
         at_place none (suc k) h s = none (k, omega (arith, h), s)
 
         not_there : (Contains atoms atom → ⊥) → Contains (a ∷ atoms) atom → ⊥

@@ -1,4 +1,4 @@
-use Rattle.std.proofs.Common.{All, length, sym, ap, subst, ◌∙◌}
+use Rattle.std.proofs.Common.{length, sym, ap, ◌∙◌}
 use Rattle.mbqi_terms.specs.declared.term.Symbol.TheVariants as symbol
 use Rattle.mbqi_terms.specs.declared.term.Term.TheVariants as term
 use Rattle.ground_form.specs.Profile.{IsArgument}

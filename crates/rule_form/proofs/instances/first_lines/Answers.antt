@@ -1,4 +1,4 @@
-use Rattle.std.proofs.Common.{◌≡◌, All, length, [], ◌++◌, sym, ap, subst, ◌∙◌, arith, append-nil}
+use Rattle.std.proofs.Common.{All, length, ◌++◌, sym, ap, subst, ◌∙◌, arith, append-nil}
 use Rattle.std.proofs.lemmas.List.{drop_all}
 use Rattle.mbqi_terms.specs.declared.instance.InstanceLine.{InstanceLine}
 use Rattle.ground_form.specs.Atoms.{formulas_in}

@@ -1,9 +1,8 @@
 -- Each text by its kind's lemma, given the parts.
-use Rattle.std.proofs.Common.{arith, codes, ap, ◌∙◌}
-use Rattle.std.proofs.lemmas.Grind.{common_steps}
-use Rattle.smtlib_printer.specs.Text.{binders_text, formula_text_with}
+use Rattle.std.proofs.Common.{codes, ap, ◌∙◌}
+use Rattle.smtlib_printer.specs.Text.{formula_text_with}
 use Rattle.smtlib_printer.proofs.Pieces.{five_pieces, of_part, seven_pieces, written}
-use Rattle.smtlib_printer.proofs.FormulaTexts.{all_text, any_text, choose_text, exists_text, forall_text, iff_text}
+use Rattle.smtlib_printer.proofs.FormulaTexts.{choose_text, iff_text}
 use Rattle.smtlib_printer.proofs.formulas.+write_formula.Goals as goal
 
 pub write_formula_with-returns-in_ok-write_formula_with-in-Iff-2 :

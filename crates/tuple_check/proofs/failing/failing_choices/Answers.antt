@@ -1,12 +1,11 @@
-use Rattle.std.proofs.Common.{◌≡◌, ℕ, ◌<◌, Bool, false, List, All, [], drop, ◌++◌, length, refl, sym, ap, subst, ◌∙◌, arith, append-nil, true}
+use Rattle.std.proofs.Common.{◌≡◌, ℕ, ◌<◌, Bool, false, List, All, drop, ◌++◌, length, refl, sym, ap, subst, ◌∙◌, arith, append-nil, true}
 use Rattle.std.specs.Prelude.{◌≤◌, slice_index_or}
 use Rattle.std.proofs.lemmas.List.{drop_all}
 use Rattle.std.proofs.lemmas.Option.{slice_get_read}
 use Rattle.mbqi_terms.specs.Distinct.{AreDistinct}
 use Rattle.mbqi_terms.specs.declared.script.Assertion.{Assertion}
 use Rattle.mbqi_terms.proofs.Places.{all_at}
-use Rattle.function_model.specs.TruthOf.{Meanings, truth_of}
-use Rattle.ground_form.specs.Atoms.{Decides}
+use Rattle.function_model.specs.TruthOf.{truth_of}
 use Rattle.ground_form.specs.Profile.{IsRule}
 use Rattle.ground_form.specs.declared.atoms.GroundAtom.{GroundAtom}
 use Rattle.ground_form.specs.declared.pool.Pool.{Pool}

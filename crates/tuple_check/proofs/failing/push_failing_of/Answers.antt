@@ -1,9 +1,8 @@
-use Rattle.std.proofs.Common.{◌≡◌, ℕ, ◌+◌, ◌<◌, OnOk, [], ◌++◌, length, map, sym, ap, subst, ◌∙◌, arith}
-use Rattle.mbqi_terms.specs.declared.formula.Formula.{Formula}
+use Rattle.std.proofs.Common.{◌≡◌, ◌+◌, ◌<◌, OnOk, [], ◌++◌, length, map, sym, ap, subst, ◌∙◌, arith}
 use Rattle.ground_form.specs.Profile.{IsArgument, IsClause}
 use Rattle.rule_form.specs.Rules.{clause_of, variables_of}
 use Rattle.rule_form.proofs.Shapes.{rule_clause, rule_variables}
-use Rattle.tuple_check.specs.Failing.{choice_of, failing_of, fails_at}
+use Rattle.tuple_check.specs.Failing.{choice_of, fails_at}
 use Rattle.tuple_check.specs.Tuples.{tuples_where}
 use Rattle.tuple_check.proofs.Choices.{failing_some}
 use Rattle.tuple_check.proofs.failing.push_failing_of.Goals as goal
