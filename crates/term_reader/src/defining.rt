@@ -8,7 +8,7 @@ ghost use Rattle.operator_arguments.specs.Measured.{Means, meaning_of};
 ghost use Rattle.term_reader.specs.Defining.{body_meant, definition_checked, definition_parts, is_definition, macro_described, macro_read, may_define};
 
 use crate::macros::{arguments, opaque_from};
-use crate::reading::read_meaning;
+use crate::reading::read_term;
 use crate::scope::Scope;
 use mbqi_terms::{Formula, Sort};
 use mbqi_values::{FaultKind, ReadError, Sequence};
@@ -23,17 +23,12 @@ use smtlib_terms::refused;
 use smtlib_terms::word::is_reserved;
 use std::alloc::Global;
 
-/// How many calls may be nested while a tree is read: as many as there is room for.
-const LEVELS: usize = usize::MAX;
-
 /// What a tree means where nothing is bound.
-#[tactic(auto, using(crate::proofs::Ends::all_macros))]
 fn closed_meaning(alloc: Global, names: &Names, tree: &Sexpr) -> Result<MeasuredMeaning, ReadError>
     ensures { Means meaning_of result (meant_by tree.now (names_of names.now) [] 0) }
 {
     let mut scope = Scope::new(alloc);
-    let macros = names.macro_count();
-    read_meaning(alloc, names, macros, &mut scope, tree, 0, LEVELS)
+    read_term(alloc, names, &mut scope, tree)
 }
 
 /// The formula that a tree means. Refused: the first fault in the order of docs/DEFINITIONS.md; its place is 0.
@@ -49,7 +44,6 @@ pub fn read_formula(alloc: Global, names: &Names, tree: &Sexpr) -> Result<Formul
 
 /// What the body of a macro means, with opaque arguments: as if each parameter were a constant of its sort, numbered
 /// behind the declared functions.
-#[tactic(auto, using(crate::proofs::Ends::all_macros))]
 fn body_meaning(
     alloc: Global,
     names: &Names,
@@ -61,16 +55,7 @@ fn body_meaning(
     let args = opaque_from(alloc, names.functions().len(), bound)?;
     let mut scope = Scope::new(alloc);
     scope.enter(alloc, arguments(alloc, bound, args, 0)?)?;
-    let macros = names.macro_count();
-    read_meaning(
-        alloc,
-        names,
-        macros,
-        &mut scope,
-        &definition.body,
-        0,
-        LEVELS,
-    )
+    read_term(alloc, names, &mut scope, &definition.body)
 }
 
 /// Whether the name and the sort of a macro let it be defined. Refused: ReservedName, Twice where a function or a macro

@@ -8,7 +8,7 @@ ghost use Rattle.mbqi_values.specs.declared.fault.FaultKind.{FaultKind};
 ghost use Rattle.smtlib_terms.specs.declared.meaning.Side.{Side};
 ghost use Rattle.smtlib_terms.specs.Answers.{IsFault};
 ghost use Rattle.smtlib_terms.specs.Applying.{alone, meaning_in_scope, name_applied};
-ghost use Rattle.smtlib_terms.specs.Declaring.{names_before, reader_of};
+ghost use Rattle.smtlib_terms.specs.Declaring.{names_before, names_of, reader_of};
 ghost use Rattle.smtlib_terms.specs.Meaning.{variables_of};
 ghost use Rattle.smtlib_terms.specs.Operators.{two_sides};
 ghost use Rattle.smtlib_terms.specs.Reading.{binder_name, body_read, first_read, list_read, meant_by, part_of, side, sides_read, trees_in, variables_of_side};
@@ -36,6 +36,9 @@ use smtlib_terms::refused;
 use smtlib_terms::word::Word;
 use std::alloc::{AllocError, Global};
 use term_operators::two_sides;
+
+/// How many calls may be nested while a tree is read: as many as there is room for.
+const LEVELS: usize = usize::MAX;
 
 /// How many calls may be nested in a call.
 fn fewer(levels: usize) -> Result<usize, AllocError>
@@ -196,7 +199,7 @@ fn read_name(
 
 /// What a tree means where no difference may stand.
 #[cycle(reading)]
-pub fn read_meaning(
+fn read_meaning(
     alloc: Global,
     names: &Names,
     macros: usize,
@@ -589,4 +592,19 @@ fn read_side(
             Err(refused(FaultKind::Unsupported))
         }
     }
+}
+
+/// What a whole term means by all names and by what is in scope, its variables counted from 0. It is no difference.
+#[tactic(auto, using(crate::proofs::Ends::all_macros))]
+pub fn read_term(
+    alloc: Global,
+    names: &Names,
+    scope: &mut Scope,
+    tree: &Sexpr,
+) -> Result<MeasuredMeaning, ReadError>
+    ensures meant { Means meaning_of result (meant_by tree.now (names_of names.now) scope.old 0) }
+    ensures scope { OnOk result (scope.new ≡ scope.old) }
+{
+    let macros = names.macro_count();
+    read_meaning(alloc, names, macros, scope, tree, 0, LEVELS)
 }
