@@ -146,14 +146,14 @@ module _ (arrays : Arrays) (lists : List (List ℕ)) (linked : AreLinked arrays 
         let next : Option ℕ = link_of arrays.next item in
         let within : from < length arrays.first = omega (arith, from_within, linked.first_length) in
         subst (λ k. link_of (slice_set arrays.first from next) k ≡ slice_get (items_of left k) 0) (sym same) (
-          get_or-set_same arrays.first from next None within
-          ∙ (here.next ∙ (sym (first-without_first item (items_of lists from) at (sym here.previous ∙ e)) ∙ ap (λ ys. slice_get ys 0) (sym from_is)))
+        get_or-set_same arrays.first from next None within
+        ∙ (here.next ∙ (sym (first-without_first item (items_of lists from) at (sym here.previous ∙ e)) ∙ ap (λ ys. slice_get ys 0) (sym from_is)))
         )
     firsts None e list (inr other) =
         get_or-set_other arrays.first from list (link_of arrays.next item) None other ∙ (linked.first list ∙ ap (λ ys. slice_get ys 0) (sym (other_is list other)))
     firsts (Some p) e list (inl same) =
         subst (λ k. link_of arrays.first k ≡ slice_get (items_of left k) 0) (sym same) (
-          linked.first from ∙ (sym (first-without_other item p (items_of lists from) (sym here.previous ∙ e)) ∙ ap (λ ys. slice_get ys 0) (sym from_is))
+        linked.first from ∙ (sym (first-without_other item p (items_of lists from) (sym here.previous ∙ e)) ∙ ap (λ ys. slice_get ys 0) (sym from_is))
         )
     firsts (Some p) e list (inr other) = linked.first list ∙ ap (λ ys. slice_get ys 0) (sym (other_is list other))
 
@@ -161,7 +161,7 @@ module _ (arrays : Arrays) (lists : List (List ℕ)) (linked : AreLinked arrays 
     placed_now list x (inl same) there =
         let there_from : has x (items_of left from) ≡ true = ap (λ k. has x (items_of left k)) (sym same) ∙ there in
         subst (λ k. IsPlaced after k (items_of left k) x) (sym same) (
-          subst (λ ys. IsPlaced after from ys x) (sym from_is) (in_same x (ap (has x) (sym from_is) ∙ there_from))
+        subst (λ ys. IsPlaced after from ys x) (sym from_is) (in_same x (ap (has x) (sym from_is) ∙ there_from))
         )
     placed_now list x (inr other) there =
         subst (λ ys. IsPlaced after list ys x) (sym (other_is list other)) (in_other list x other (ap (has x) (sym (other_is list other)) ∙ there))
@@ -275,7 +275,7 @@ module _ (arrays : Arrays) (lists : List (List ℕ)) (linked : AreLinked arrays 
     firsts_now : (other : ℕ) → (other ≡ list) ⊎ (other ≢ list) → link_of more.first other ≡ slice_get (items_of put other) 0
     firsts_now other (inl same) =
         subst (λ k. link_of more.first k ≡ slice_get (items_of put k) 0) (sym same) (
-          get_or-set_same arrays.first list (Some item) None (omega (arith, list_within, linked.first_length)) ∙ ap (λ ys. slice_get ys 0) (sym list_is)
+        get_or-set_same arrays.first list (Some item) None (omega (arith, list_within, linked.first_length)) ∙ ap (λ ys. slice_get ys 0) (sym list_is)
         )
     firsts_now other (inr differ) =
         get_or-set_other arrays.first list other (Some item) None differ ∙ (linked.first other ∙ ap (λ ys. slice_get ys 0) (sym (others_are other differ)))
@@ -290,7 +290,7 @@ module _ (arrays : Arrays) (lists : List (List ℕ)) (linked : AreLinked arrays 
     placed_put other x (inl same) there =
         let there_list : has x (items_of put list) ≡ true = ap (λ k. has x (items_of put k)) (sym same) ∙ there in
         subst (λ k. IsPlaced more k (items_of put k) x) (sym same) (
-          subst (λ ys. IsPlaced more list ys x) (sym list_is) (placed_here x (ap (has x) (sym list_is) ∙ there_list))
+        subst (λ ys. IsPlaced more list ys x) (sym list_is) (placed_here x (ap (has x) (sym list_is) ∙ there_list))
         )
     placed_put other x (inr differ) there =
         subst (λ ys. IsPlaced more other ys x) (sym (others_are other differ)) (elsewhere other x differ (ap (has x) (sym (others_are other differ)) ∙ there))

@@ -61,9 +61,9 @@ has-from_without y item [] at = at
 has-from_without y item (w ∷ ws) at = elim (eqb_tells w item) [
   | inl same ↦ or_right (eqb w y) (has y ws) (rw same.0 at at)
   | inr other ↦ elim (or_cases (eqb w y) (has y (without item ws)) (rw other.0 at at)) [
-      | inl here ↦ rw here refl
-      | inr more ↦ or_right (eqb w y) (has y ws) (has-from_without y item ws more)
-    ]
+    | inl here ↦ rw here refl
+    | inr more ↦ or_right (eqb w y) (has y ws) (has-from_without y item ws more)
+  ]
 ]
 
 -- what stands behind an item in a list without another one stands behind it in the list
@@ -111,9 +111,9 @@ has-before front x item [] e differ = cc
 has-before front x item (y ∷ ys) e differ = elim (eqb_tells y item) [
   | inl same ↦ absurd (differ (rw same.0 at e))
   | inr other ↦ elim (eqb_tells y x) [
-      | inl here ↦ rw here.0 refl
-      | inr there ↦ or_right (eqb y x) (has x ys) (has-before (Some y) x item ys (rw other.0 at e) (λ s. there.1 (cc)))
-    ]
+    | inl here ↦ rw here.0 refl
+    | inr there ↦ or_right (eqb y x) (has x ys) (has-before (Some y) x item ys (rw other.0 at e) (λ s. there.1 (cc)))
+  ]
 ]
 
 -- an item that a list has is the first of it, or has one before it
@@ -147,9 +147,9 @@ behind-without_before front x item [] o e differ = refl
 behind-without_before front x item (y ∷ ys) o e differ = elim (eqb_tells y item) [
   | inl same ↦ absurd (differ (rw same.0 at e))
   | inr other ↦ elim (eqb_tells y x) [
-      | inl here ↦ rw (other.0, here.0) (next ys (once-first y ys o) here.1 (rw other.0 at e))
-      | inr there ↦ rw (other.0, there.0) (behind-without_before (Some y) x item ys (once-rest y ys o) (rw other.0 at e) (λ s. there.1 (cc)))
-    ]
+    | inl here ↦ rw (other.0, here.0) (next ys (once-first y ys o) here.1 (rw other.0 at e))
+    | inr there ↦ rw (other.0, there.0) (behind-without_before (Some y) x item ys (once-rest y ys o) (rw other.0 at e) (λ s. there.1 (cc)))
+  ]
 ]
   where
     next : (zs : List ℕ) → has y zs ≡ false → y ≡ x → before (Some y) item zs ≡ Some x → slice_get (without item zs) 0 ≡ slice_get (behind item zs) 0
@@ -169,9 +169,9 @@ behind-without_other front x item [] e differ = refl
 behind-without_other front x item (y ∷ ys) e differ = elim (eqb_tells y item) [
   | inl same ↦ rw (same.0, ne_eqb y x (λ s. differ (sym s ∙ same.1))) refl
   | inr other ↦ elim (eqb_tells y x) [
-      | inl here ↦ rw (other.0, here.0) (next ys here.1 (rw other.0 at e))
-      | inr there ↦ rw (other.0, there.0) (behind-without_other (Some y) x item ys (rw other.0 at e) differ)
-    ]
+    | inl here ↦ rw (other.0, here.0) (next ys here.1 (rw other.0 at e))
+    | inr there ↦ rw (other.0, there.0) (behind-without_other (Some y) x item ys (rw other.0 at e) differ)
+  ]
 ]
   where
     next : (zs : List ℕ) → y ≡ x → before (Some y) item zs ≢ Some x → slice_get (without item zs) 0 ≡ slice_get zs 0
@@ -204,9 +204,9 @@ before-without_other front x item [] e differ = refl
 before-without_other front x item (y ∷ ys) e differ = elim (eqb_tells y item) [
   | inl same ↦ rw (same.0, ne_eqb y x (λ s. differ (sym s ∙ same.1))) (next ys (rw same.0 at e))
   | inr other ↦ elim (eqb_tells y x) [
-      | inl here ↦ rw (other.0, here.0) refl
-      | inr there ↦ rw (other.0, there.0) (before-without_other (Some y) x item ys (rw other.0 at e) differ)
-    ]
+    | inl here ↦ rw (other.0, here.0) refl
+    | inr there ↦ rw (other.0, there.0) (before-without_other (Some y) x item ys (rw other.0 at e) differ)
+  ]
 ]
   where
     next : (zs : List ℕ) → slice_get zs 0 ≢ Some x → before front x zs ≡ before (Some y) x zs

@@ -65,9 +65,9 @@ module _ (arrays : Arrays) (lists : List (List ℕ)) (whole : IsLinked arrays li
           let few : length (items_of lists k) ≤ item_count lists = get_or-le-sum_by length lists k [] in_lists in
           get_or-map (walk (length arrays.next) arrays.next) arrays.first k None d in_first
           ∙ (
-            walk_all (length arrays.next) arrays.next (items_of lists k) (link_of arrays.first k) (whole.linked.first k) (omega (arith, few, whole.next_length)) (whole.linked.once k)
-            (λ x there. (whole.linked.placed k x there).next)
-            ∙ get_or_default lists k [] d in_lists
+          walk_all (length arrays.next) arrays.next (items_of lists k) (link_of arrays.first k) (whole.linked.first k) (omega (arith, few, whole.next_length)) (whole.linked.once k)
+          (λ x there. (whole.linked.placed k x there).next)
+          ∙ get_or_default lists k [] d in_lists
           )
 
   module _ (item list : ℕ) (item_within : item < length arrays.next) (list_within : list < length lists) where
@@ -118,8 +118,8 @@ module _ (arrays : Arrays) (lists : List (List ℕ)) (whole : IsLinked arrays li
     found x within = elim (cases_eq x item) [
       | inl same ↦
           subst (λ y. has y (items_of moved (get_or after.list_of y 0)) ≡ true) (sym same) (
-            ap (λ k. has item (items_of moved k)) (get_or-set_same arrays.list_of item list 0 (omega (arith, item_within, whole.linked.list_of_length)))
-            ∙ (ap (has item) (list_is between left between-linked item list absent between_within left_within) ∙ rw (eq-eqb item item refl) refl)
+          ap (λ k. has item (items_of moved k)) (get_or-set_same arrays.list_of item list 0 (omega (arith, item_within, whole.linked.list_of_length)))
+          ∙ (ap (has item) (list_is between left between-linked item list absent between_within left_within) ∙ rw (eq-eqb item item refl) refl)
           )
       | inr differ ↦
           let k : ℕ = get_or arrays.list_of x 0 in
@@ -132,8 +132,8 @@ module _ (arrays : Arrays) (lists : List (List ℕ)) (whole : IsLinked arrays li
         still k x (inl same) there =
             ap (λ j. has x (items_of moved j)) same
             ∙ (
-              ap (has x) (list_is between left between-linked item list absent between_within left_within)
-              ∙ or_right (item == x) (has x (items_of left list)) (ap (λ j. has x (items_of left j)) (sym same) ∙ there)
+            ap (has x) (list_is between left between-linked item list absent between_within left_within)
+            ∙ or_right (item == x) (has x (items_of left list)) (ap (λ j. has x (items_of left j)) (sym same) ∙ there)
             )
         still k x (inr differ) there = ap (has x) (others_are between left between-linked item list absent between_within left_within k differ) ∙ there
 

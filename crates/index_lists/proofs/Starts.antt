@@ -36,8 +36,8 @@ range-once a n = record { once = by a n }
     by a (suc n) x = elim (eqb_tells a x) [
       | inl same ↦
           rw same.0 (
-            false_from_ne_true (has x (range_with_len (a + 1) n))
-            (λ there. let from = (range-within (a + 1) n x there).0 in let e = same.1 in absurd (omega (arith, from, e)))
+          false_from_ne_true (has x (range_with_len (a + 1) n))
+          (λ there. let from = (range-within (a + 1) n x there).0 in let e = same.1 in absurd (omega (arith, from, e)))
           )
       | inr other ↦ rw other.0 (by (a + 1) n x)
     ]

@@ -101,14 +101,18 @@ fn next_links(alloc: Global, items: usize) -> Result<Vec<Option<usize>>, AllocEr
     ensures { IfOk result (λ links. links.items ≡ next_links items) }
 {
     let last = items.saturating_sub(1);
-    (0..items).map(|item| if item < last { Some(item + 1) } else { None }).collect(alloc)
+    (0..items)
+        .map(|item| if item < last { Some(item + 1) } else { None })
+        .collect(alloc)
 }
 
 /// By item, the one before it.
 fn previous_links(alloc: Global, items: usize) -> Result<Vec<Option<usize>>, AllocError>
     ensures { IfOk result (λ links. links.items ≡ previous_links items) }
 {
-    (0..items).map(|item| if item > 0 { Some(item - 1) } else { None }).collect(alloc)
+    (0..items)
+        .map(|item| if item > 0 { Some(item - 1) } else { None })
+        .collect(alloc)
 }
 
 /// Links to the items below this number, in rising order.
