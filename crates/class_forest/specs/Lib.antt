@@ -1,0 +1,5 @@
+pub mod Classes
+pub mod Forest
+pub mod Joined
+pub mod Kept
+pub mod Marks

@@ -1,0 +1,158 @@
+//! Classes of nodes, by the log of their merges.
+
+ghost use Rattle.std.specs.Prelude.{◌≡◌, ◌≢◌, ◌-◌, ◌<◌, [], ◌∷◌, ◌++◌, Some, length, take, slice_get, IfOk};
+ghost use Rattle.index_lists.specs.Lists.{behind};
+ghost use Rattle.class_forest.specs.Classes.{class_of, members, merge_of};
+ghost use Rattle.class_forest.specs.declared.merge.Merge.{Merge};
+
+use crate::marks::Marks;
+use crate::merge::Merge;
+use crate::moving::move_items;
+use index_lists::IndexLists;
+use std::alloc::{AllocError, Global};
+use std::marker::Model;
+
+/// Classes of the nodes below a number, joined by merges and parted again by taking the last merge back.
+///
+/// Contracts see the merges in their order. Which class a node is in, and which members a class has in which order,
+/// are functions of them.
+#[derive(Debug, Drop)]
+pub struct ClassForest {
+    // By class its members.
+    pub(crate) lists: IndexLists,
+    // By class how many members it has, or had when it went.
+    pub(crate) sizes: Vec<usize>,
+    // By class the number of the merge in which it went.
+    pub(crate) gone: Vec<Option<usize>>,
+    // There is room for as many merges as there are nodes.
+    pub(crate) log: Vec<Merge>,
+    pub(crate) marks: Marks,
+}
+
+impl Model for ClassForest {
+    ghost use Rattle.std.specs.Prelude.{◌≡◌, ◌≤◌, vec_capacity, vec_len};
+    ghost use Rattle.class_forest.specs.Forest.{Forest};
+    ghost use Rattle.class_forest.specs.Kept.{IsKept};
+
+    ghost Value = { Forest };
+
+    ghost view = { λ f. record { nodes = vec_len f.sizes; log = f.log.items; marks = f.marks.marks } };
+
+    ghost invariant = { λ f. IsKept (vec_len f.sizes) f.log.items f.lists f.sizes.items f.gone.items × (vec_len f.sizes ≤ vec_capacity f.log) × (f.marks.room ≡ vec_len f.sizes) };
+}
+
+impl ClassForest {
+    /// So many nodes, each a class of its own. This call alone takes memory.
+    pub fn new(alloc: Global, nodes: usize) -> Result<ClassForest, AllocError>
+        ensures { IfOk result (λ forest. forest ≡ record { nodes = nodes; log = []; marks = [] }) }
+    {
+        let lists = IndexLists::each_alone(alloc, nodes)?;
+        let sizes = vec![in alloc; 1; nodes]?;
+        let gone = vec![in alloc; None; nodes]?;
+        let log = Vec::with_capacity(alloc, nodes)?;
+        let marks = Marks::new(alloc, nodes)?;
+        Ok(ClassForest {
+            lists,
+            sizes,
+            gone,
+            log,
+            marks,
+        })
+    }
+
+    /// The class of a node.
+    pub fn class(&self, node: usize) -> usize
+        requires { node < self.now.nodes }
+        ensures value { result ≡ class_of self.now.log node }
+        ensures within { result < self.now.nodes }
+    {
+        self.lists.list_of(node)
+    }
+
+    /// How many members the class has. One that went has none.
+    pub fn size(&self, class: usize) -> usize
+        requires { class < self.now.nodes }
+        ensures { result ≡ length (members self.now.log class) }
+    {
+        match self.gone[class] {
+            Some(_) => 0,
+            None => self.sizes[class],
+        }
+    }
+
+    /// The first member of the class, if it has any.
+    pub fn first(&self, class: usize) -> Option<usize>
+        requires { class < self.now.nodes }
+        ensures { result ≡ slice_get (members self.now.log class) 0 }
+    {
+        self.lists.first(class)
+    }
+
+    /// The member that stands behind this one in its class, if any does.
+    pub fn next(&self, node: usize) -> Option<usize>
+        requires { node < self.now.nodes }
+        ensures { result ≡ slice_get (behind node (members self.now.log (class_of self.now.log node))) 0 }
+    {
+        self.lists.next(node)
+    }
+
+    /// Joins the classes of two nodes. The members of the smaller class go over to the larger one, those of the right
+    /// one if both have one size. The reason is a number that is only kept.
+    pub fn merge(&mut self, left: usize, right: usize, reason: usize)
+        requires left_within { left < self.old.nodes }
+        requires right_within { right < self.old.nodes }
+        requires apart { class_of self.old.log left ≢ class_of self.old.log right }
+        ensures { self.new ≡ record self.old { log = self.old.log ++ merge_of self.old.log left right reason ∷ [] } }
+    {
+        let number = self.log.len();
+        let merge = self.merge_of(left, right, reason);
+        move_items(&mut self.lists, self.sizes[merge.went], merge.went, merge.stayed);
+        self.sizes[merge.stayed] += self.sizes[merge.went];
+        self.gone[merge.went] = Some(number);
+        self.log.push(merge).unwrap();
+    }
+
+    /// Takes the last merge back. Marks stay as they are.
+    pub fn undo(&mut self)
+        requires { 0 < length self.old.log }
+        ensures { self.new ≡ record self.old { log = take (length self.old.log - 1) self.old.log } }
+    {
+        let merge = self.log.pop().unwrap();
+        self.gone[merge.went] = None;
+        self.sizes[merge.stayed] -= self.sizes[merge.went];
+        move_items(&mut self.lists, self.sizes[merge.went], merge.stayed, merge.went);
+    }
+
+    /// How many merges there were, without those that were taken back.
+    pub fn merges(&self) -> usize
+        ensures { result ≡ length self.now.log }
+    {
+        self.log.len()
+    }
+
+    /// The merge of this number, the first one's being 0.
+    pub fn merge_at(&self, number: usize) -> Merge
+        requires { number < length self.now.log }
+        ensures { slice_get self.now.log number ≡ Some result }
+    {
+        self.log[number]
+    }
+
+    /// The merge that joining the classes of two nodes would be.
+    fn merge_of(&self, left: usize, right: usize, reason: usize) -> Merge
+        requires left_within { left < self.now.nodes }
+        requires right_within { right < self.now.nodes }
+        ensures { result ≡ merge_of self.now.log left right reason }
+    {
+        let one = self.class(left);
+        let other = self.class(right);
+        let (went, stayed) = if self.size(one) < self.size(other) { (one, other) } else { (other, one) };
+        Merge {
+            left,
+            right,
+            went,
+            stayed,
+            reason,
+        }
+    }
+}
