@@ -8,7 +8,7 @@ pub record Marked : Type 0 where
 
 -- whether the number is one of the marks
 abbrev pub is_mark : List ℕ → ℕ → Bool
-is_mark marks number = list_any (λ mark. mark == number) marks
+is_mark marks number = list_any (λ mark. number == mark) marks
 
 -- the marks with this one too
 abbrev pub with_mark : List ℕ → ℕ → List ℕ

@@ -2,7 +2,7 @@
 
 ghost use Rattle.std.specs.Prelude.{◌≡◌, ◌≢◌, ◌-◌, ◌<◌, [], ◌∷◌, ◌++◌, Some, length, take, slice_get, IfOk};
 ghost use Rattle.index_lists.specs.Lists.{behind};
-ghost use Rattle.class_forest.specs.Classes.{class_of, members, merge_of};
+ghost use Rattle.class_forest.specs.Classes.{class_of, members, merge_of, IsMerge};
 ghost use Rattle.class_forest.specs.declared.merge.Merge.{Merge};
 
 use crate::marks::Marks;
@@ -104,12 +104,8 @@ impl ClassForest {
         requires apart { class_of self.old.log left ≢ class_of self.old.log right }
         ensures { self.new ≡ record self.old { log = self.old.log ++ merge_of self.old.log left right reason ∷ [] } }
     {
-        let number = self.log.len();
         let merge = self.merge_of(left, right, reason);
-        move_items(&mut self.lists, self.sizes[merge.went], merge.went, merge.stayed);
-        self.sizes[merge.stayed] += self.sizes[merge.went];
-        self.gone[merge.went] = Some(number);
-        self.log.push(merge).unwrap();
+        self.join(merge);
     }
 
     /// Takes the last merge back. Marks stay as they are.
@@ -118,9 +114,10 @@ impl ClassForest {
         ensures { self.new ≡ record self.old { log = take (length self.old.log - 1) self.old.log } }
     {
         let merge = self.log.pop().unwrap();
+        let size = self.sizes[merge.went];
+        move_items(&mut self.lists, size, merge.stayed, merge.went);
+        self.sizes[merge.stayed] -= size;
         self.gone[merge.went] = None;
-        self.sizes[merge.stayed] -= self.sizes[merge.went];
-        move_items(&mut self.lists, self.sizes[merge.went], merge.stayed, merge.went);
     }
 
     /// How many merges there were, without those that were taken back.
@@ -136,6 +133,19 @@ impl ClassForest {
         ensures { slice_get self.now.log number ≡ Some result }
     {
         self.log[number]
+    }
+
+    /// Makes a merge that can come after those before.
+    fn join(&mut self, merge: Merge)
+        requires { IsMerge self.old.nodes self.old.log merge }
+        ensures { self.new ≡ record self.old { log = self.old.log ++ merge ∷ [] } }
+    {
+        let number = self.log.len();
+        let size = self.sizes[merge.went];
+        move_items(&mut self.lists, size, merge.went, merge.stayed);
+        self.sizes[merge.stayed] += size;
+        self.gone[merge.went] = Some(number);
+        self.log.push(merge).unwrap();
     }
 
     /// The merge that joining the classes of two nodes would be.
