@@ -128,3 +128,19 @@ class_of-gone_in log class is =
       inl gone ↦ let e : None ≡ Some (end_of log class) = sym is ∙ gone_in_at log class gone in cc
     | inr still ↦ class_of-still log class (omega arith)
     ]
+
+pub end_of-gone_in : (log : List Merge) (class number : ℕ) → gone_in log class ≡ Some number → end_of log class ≡ number
+end_of-gone_in log class number is =
+    let le = end_of-le log class in
+    elim (cases_lt (end_of log class) (length log)) [
+      inl gone ↦ let e : Some (end_of log class) ≡ Some number = sym (gone_in_at log class gone) ∙ is in cc
+    | inr still ↦ let e : None ≡ Some number = sym (gone_in_still log class (omega arith)) ∙ is in cc
+    ]
+
+pub end_of-still_in : (log : List Merge) (class : ℕ) → gone_in log class ≡ None → end_of log class ≡ length log
+end_of-still_in log class is =
+    let le = end_of-le log class in
+    elim (cases_lt (end_of log class) (length log)) [
+      inl gone ↦ let e : None ≡ Some (end_of log class) = sym is ∙ gone_in_at log class gone in cc
+    | inr still ↦ omega arith
+    ]

@@ -6,13 +6,13 @@ use Rattle.std.proofs.lemmas.List.Elements.{Contains-append_left, Contains-appen
 use Rattle.class_forest.specs.declared.merge.Merge.{Merge}
 use Rattle.class_forest.specs.Classes.{class_of, moved, IsLog, IsMerge}
 use Rattle.class_forest.specs.Joined.{IsJoined, IsLinked}
-use Rattle.class_forest.specs.Joined.IsJoined.{same, by_merge, back, along}
+use Rattle.class_forest.specs.Joined.IsJoined.{equal, by_merge, back, along}
 use Rattle.class_forest.proofs.Logs.{by_last, class_of-append, class_of-push}
 use Rattle.class_forest.proofs.Members.{moved_other, moved_went, Joins-IsMerge}
 
 -- more merges join what fewer do
 pub IsJoined-more : (log : List Merge) (merge : Merge) (x y : ℕ) → IsJoined log x y → IsJoined (log ++ merge ∷ []) x y
-IsJoined-more log merge x y (same e) = same e
+IsJoined-more log merge x y (equal e) = equal e
 IsJoined-more log merge x y (by_merge m among left right) = by_merge m (Contains-append_left log (merge ∷ []) m among) left right
 IsJoined-more log merge x y (back joined) = back (IsJoined-more log merge y x joined)
 IsJoined-more log merge x y (along z one other) = along z (IsJoined-more log merge x z one) (IsJoined-more log merge z y other)
@@ -34,7 +34,7 @@ class_of-ends nodes log valid =
       ]) log valid
 
 joined_class : (log : List Merge) → ((merge : Merge) → Contains log merge → class_of log merge.left ≡ class_of log merge.right) → (x y : ℕ) → IsJoined log x y → class_of log x ≡ class_of log y
-joined_class log ends x y (same e) = ap (class_of log) e
+joined_class log ends x y (equal e) = ap (class_of log) e
 joined_class log ends x y (by_merge m among left right) = ap (class_of log) left ∙ (ends m among ∙ sym (ap (class_of log) right))
 joined_class log ends x y (back joined) = sym (joined_class log ends y x joined)
 joined_class log ends x y (along z one other) = joined_class log ends x z one ∙ joined_class log ends z y other
@@ -58,7 +58,7 @@ joined_more nodes log merge joins known x =
 
 -- a node and its class are joined
 pub IsJoined-class_of : (nodes : ℕ) (log : List Merge) → IsLog nodes log → (x : ℕ) → IsJoined log x (class_of log x)
-IsJoined-class_of nodes log valid = by_last nodes (λ log. (x : ℕ) → IsJoined log x (class_of log x)) (λ x. same refl) (λ log merge _ joins known. joined_more nodes log merge joins known) log valid
+IsJoined-class_of nodes log valid = by_last nodes (λ log. (x : ℕ) → IsJoined log x (class_of log x)) (λ x. equal refl) (λ log merge _ joins known. joined_more nodes log merge joins known) log valid
 
 -- nodes of one class are joined
 pub IsJoined-same_class : (nodes : ℕ) (log : List Merge) → IsLog nodes log → (x y : ℕ) → class_of log x ≡ class_of log y → IsJoined log x y

@@ -7,8 +7,9 @@ use Rattle.class_forest.specs.Classes.{class_of, members, IsLog, IsMerge}
 use Rattle.class_forest.specs.Kept.{gone_in, kept_size, IsKept}
 use Rattle.class_forest.proofs.Endings.{class_is_still, gone_in_still, gone_in-push_other, gone_in-push_went}
 use Rattle.class_forest.proofs.Logs.{IsLog-at, IsLog-front, IsLog-push}
-use Rattle.class_forest.proofs.Members.{both_are_classes, both_within, class_of-within, has-members, kept_size-push_other, kept_size-push_stayed, length-members, members-push_other, members-push_stayed, members-push_went, went≢stayed}
+use Rattle.class_forest.proofs.Members.{both_are_classes, both_within, class_of-class_of, class_of-within, has-members, kept_size-push_other, kept_size-push_stayed, length-members, members-push_other, members-push_stayed, members-push_went, went≢stayed}
 use Rattle.class_forest.proofs.Rooms.{two_lists}
+use Rattle.std.proofs.lemmas.List.Sums.{sum_by_more_le}
 
 -- the first so many items of one list stand at the front of another, last to first
 pub record Moves (count from to : ℕ) (old new : List (List ℕ)) : Type 0 where
@@ -164,3 +165,13 @@ IsKept-undo nodes log lists new_lists sizes gone merge went_size stayed_size kep
 -- a size that was read
 pub size_read : (nodes : ℕ) (log : List Merge) (lists : List (List ℕ)) (sizes : List ℕ) (gone : List (Option ℕ)) (class size : ℕ) → IsKept nodes log lists sizes gone → class < nodes → size ≡ get_or sizes class size → size ≡ kept_size log class
 size_read nodes log lists sizes gone class size kept within is = get_or_read sizes class size (rw kept.size_count within) is 0 ∙ kept.size_at class within
+
+-- no class has more members than there are nodes
+pub kept_size-le : (nodes : ℕ) (log : List Merge) (lists : List (List ℕ)) (sizes : List ℕ) (gone : List (Option ℕ)) (node : ℕ) → IsKept nodes log lists sizes gone → node < nodes → kept_size log (class_of log node) ≤ nodes
+kept_size-le nodes log lists sizes gone node kept within =
+    let class = class_of log node in
+    let class_in = class_of-within nodes log kept.valid node within in
+    let size = ap length (kept.members_at class class_in) ∙ length-members nodes log kept.valid class (class_of-class_of nodes log kept.valid node) in
+    let part = sum_by_more_le length lists class [] (rw kept.list_count class_in) in
+    let all = kept.item_count in
+    omega arith

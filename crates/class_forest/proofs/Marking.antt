@@ -1,15 +1,18 @@
 use Rattle.std.proofs.Common.{◌≡◌, ℕ, ◌+◌, ◌<◌, ◌≤◌, Bool, true, false, ◌||◌, eqb, List, [], ◌∷◌, ◌++◌, length, get_or, set, replicate, ◌⊎◌, inl, inr, refl, sym, ap, ◌∙◌, arith}
-use Rattle.std.specs.List.{All, AllByRecursion, IsDistinct, list_any}
+use Rattle.std.specs.List.{All, AllByRecursion, Contains, IsDistinct, list_any}
 use Rattle.std.proofs.Math.Bool.{or-false}
-use Rattle.std.proofs.lemmas.Bool.{cases_eq, eq-eqb, ne_eqb, eqb-true, eqb-false, or_from, or_right}
+use Rattle.std.proofs.lemmas.Bool.{cases_Bool, cases_eq, eq-eqb, ne_eqb, eqb-true, eqb-false, or_from, or_right}
 use Rattle.std.specs.Cmp.{nat_eq_equiv}
-use Rattle.std.proofs.lemmas.List.{get_or-replicate, get_or-set_same, get_or-set_other, get_or_append_left, length-replicate, length-set, length_push}
-use Rattle.std.proofs.lemmas.List.Elements.{All-from_recursion, All-push, All-contains, Contains-push}
+use Rattle.std.proofs.lemmas.List.{append-nil, append_assoc, get_or-replicate, get_or-set_same, get_or-set_other, get_or_append_left, length-replicate, length-set, length_push}
+use Rattle.std.proofs.lemmas.List.Elements.{All-append, All-cons, All-from_recursion, All-nil, All-push, All-contains, All-weaker, Contains-append_left, Contains-push}
 use Rattle.std.proofs.lemmas.List.Folds.{list_any-append}
 use Rattle.std.proofs.lemmas.Map.Keys.{IsDistinct-push}
-use Rattle.std.proofs.lemmas.Map.Views.{Contains-from_any}
+use Rattle.std.proofs.lemmas.Map.Views.{Contains-from_any, list_any-from_Contains}
 use Rattle.std.proofs.lemmas.Map.Steps.{length-le_from_distinct_below}
-use Rattle.class_forest.specs.Marks.{is_mark, AreMarks}
+use Rattle.class_forest.specs.declared.merge.Merge.{Merge}
+use Rattle.class_forest.specs.Joined.{GrowsBelow, IsLinked}
+use Rattle.class_forest.specs.Joined.IsLinked.{equal, by_merge, back, along}
+use Rattle.class_forest.specs.Marks.{is_mark, with_mark, AreMarks}
 
 is_mark-push : (marks : List ℕ) (one number : ℕ) → is_mark (marks ++ one ∷ []) number ≡ (is_mark marks number || (eqb number one || false))
 is_mark-push marks one number = list_any-append (eqb number) marks (one ∷ [])
@@ -70,3 +73,45 @@ pub room_for_mark : (flags : List Bool) (marks : List ℕ) (number : ℕ) → Ar
 room_for_mark flags marks number marked within fresh =
     let le = length-AreMarks (set flags number true) (marks ++ number ∷ []) (AreMarks-push flags marks number marked within fresh) in
     omega (arith, length_push marks number, length-set flags number true)
+
+-- what the test of a mark means
+pub is_mark-Contains : (marks : List ℕ) (number : ℕ) → is_mark marks number ≡ true → Contains marks number
+is_mark-Contains marks number is = Contains-from_any (λ x y. eqb-true x y) number marks is
+
+pub Contains-is_mark : (marks : List ℕ) (number : ℕ) → Contains marks number → is_mark marks number ≡ true
+Contains-is_mark marks number among = list_any-from_Contains nat_eq_equiv number marks among
+
+-- one more mark adds one at most
+pub with_mark-grows : (marks : List ℕ) (number limit : ℕ) → number < limit → GrowsBelow limit marks (with_mark marks number)
+with_mark-grows marks number limit below =
+    elim (cases_Bool (is_mark marks number)) [
+      inl is ↦ rw is ([], sym (append-nil marks), λ k d in'. absurd (omega arith))
+    | inr is ↦ rw is (number ∷ [], refl, All-cons (λ n. n < limit) number [] below (All-nil (λ n. n < limit)))
+    ]
+
+-- and is among them then
+pub Contains-with_mark : (marks : List ℕ) (number : ℕ) → Contains (with_mark marks number) number
+Contains-with_mark marks number =
+    elim (cases_Bool (is_mark marks number)) [
+      inl is ↦ rw is (is_mark-Contains marks number is)
+    | inr is ↦ rw is (Contains-push marks number)
+    ]
+
+-- marks that grew twice
+pub GrowsBelow-twice : (limit : ℕ) (a b c : List ℕ) → GrowsBelow limit a b → GrowsBelow limit b c → GrowsBelow limit a c
+GrowsBelow-twice limit a b c one other = (one.0 ++ other.0, other.1 ∙ (rw one.1 (append_assoc a one.0 other.0)), All-append (λ n. n < limit) one.0 other.0 one.2 other.2)
+
+-- below a greater number
+pub GrowsBelow-wider : (less more : ℕ) (old new : List ℕ) → less ≤ more → GrowsBelow less old new → GrowsBelow more old new
+GrowsBelow-wider less more old new le grows = (grows.0, grows.1, All-weaker (λ n. n < less) (λ n. n < more) (λ n below. omega arith) grows.0 grows.2)
+
+-- no mark more
+pub GrowsBelow-none : (limit : ℕ) (marks : List ℕ) → GrowsBelow limit marks marks
+GrowsBelow-none limit marks = ([], sym (append-nil marks), λ k d within. absurd (omega arith))
+
+-- what marks link stays linked by more of them
+pub IsLinked-grows : (log : List Merge) (limit : ℕ) (old new : List ℕ) (x y : ℕ) → GrowsBelow limit old new → IsLinked log old x y → IsLinked log new x y
+IsLinked-grows log limit old new x y grows (equal e) = equal e
+IsLinked-grows log limit old new x y grows (by_merge number merge marked is left right) = by_merge number merge (rw grows.1 (Contains-append_left old grows.0 number marked)) is left right
+IsLinked-grows log limit old new x y grows (back linked) = back (IsLinked-grows log limit old new y x grows linked)
+IsLinked-grows log limit old new x y grows (along z one other) = along z (IsLinked-grows log limit old new x z grows one) (IsLinked-grows log limit old new z y grows other)

@@ -4,14 +4,14 @@ use Rattle.class_forest.specs.declared.merge.Merge.{Merge}
 
 -- the merges join the two nodes: the least equivalence that has the two nodes of each of them
 pub data IsJoined (log : List Merge) : ℕ → ℕ → Type 0 where
-  same : {x y : ℕ} → x ≡ y → IsJoined log x y
+  equal : {x y : ℕ} → x ≡ y → IsJoined log x y
   by_merge : {x y : ℕ} (merge : Merge) → Contains log merge → x ≡ merge.left → y ≡ merge.right → IsJoined log x y
   back : {x y : ℕ} → IsJoined log y x → IsJoined log x y
   along : {x y : ℕ} (z : ℕ) → IsJoined log x z → IsJoined log z y → IsJoined log x y
 
 -- the marked ones of the merges join the two nodes
 pub data IsLinked (log : List Merge) (marks : List ℕ) : ℕ → ℕ → Type 0 where
-  same : {x y : ℕ} → x ≡ y → IsLinked log marks x y
+  equal : {x y : ℕ} → x ≡ y → IsLinked log marks x y
   by_merge : {x y : ℕ} (number : ℕ) (merge : Merge) → Contains marks number → slice_get log number ≡ Some merge → x ≡ merge.left → y ≡ merge.right → IsLinked log marks x y
   back : {x y : ℕ} → IsLinked log marks y x → IsLinked log marks x y
   along : {x y : ℕ} (z : ℕ) → IsLinked log marks x z → IsLinked log marks z y → IsLinked log marks x y

@@ -1,8 +1,11 @@
 //! Classes of nodes, by the log of their merges.
 
-ghost use Rattle.std.specs.Prelude.{◌≡◌, ◌≢◌, ◌-◌, ◌<◌, [], ◌∷◌, ◌++◌, Some, length, take, slice_get, IfOk};
-ghost use Rattle.index_lists.specs.Lists.{behind};
-ghost use Rattle.class_forest.specs.Classes.{class_of, members, merge_of, IsMerge};
+ghost use Rattle.std.specs.List.{Contains, IsDistinct};
+ghost use Rattle.std.specs.Prelude.{◌≡◌, ◌≢◌, ◌↔◌, ℕ, ◌-◌, ◌<◌, ◌≤◌, [], ◌∷◌, ◌++◌, Some, length, nat_eq, take, slice_get, IfOk, IsTrue};
+ghost use Rattle.index_lists.specs.Lists.{behind, has};
+ghost use Rattle.class_forest.specs.Classes.{class_of, members, merge_of, IsLog, IsMerge};
+ghost use Rattle.class_forest.specs.Joined.{IsJoined};
+ghost use Rattle.class_forest.specs.Marks.{with_mark};
 ghost use Rattle.class_forest.specs.declared.merge.Merge.{Merge};
 
 use crate::marks::Marks;
@@ -146,6 +149,48 @@ impl ClassForest {
         self.sizes[merge.stayed] += size;
         self.gone[merge.went] = Some(number);
         self.log.push(merge).unwrap();
+    }
+
+    /// Whether the merge of this number is marked.
+    pub fn is_marked(&self, number: usize) -> bool
+        requires { number < length self.now.log }
+        ensures { IsTrue result ↔ Contains self.now.marks number }
+    {
+        self.marks.is_marked(number)
+    }
+
+    /// The numbers of the marked merges, each once, in the order in which they were marked.
+    pub fn marked(&self) -> &[usize]
+        ensures marks { result.now ≡ self.now.marks }
+        ensures once { IsDistinct nat_eq self.now.marks }
+    {
+        self.marks.marked()
+    }
+
+    /// Takes all marks away, in as many steps as there are.
+    pub fn unmark_all(&mut self)
+        ensures { self.new ≡ record self.old { marks = [] } }
+    {
+        self.marks.unmark_all();
+    }
+
+    /// What the merges say of the classes: each could come after those before it, there are no more of them than nodes,
+    /// two nodes have one class exactly where merges join them, and the members of a class are the nodes whose class it is.
+    pub fn laws(&self)
+        ensures valid { IsLog self.now.nodes self.now.log }
+        ensures fewer { length self.now.log ≤ self.now.nodes }
+        ensures joined { (x y : ℕ) → (class_of self.now.log x ≡ class_of self.now.log y) ↔ IsJoined self.now.log x y }
+        ensures members { (class node : ℕ) → IsTrue (has node (members self.now.log class)) ↔ (class_of self.now.log node ≡ class) }
+    {
+        let _log = &self.log;
+    }
+
+    /// Marks a merge, if it isn't marked.
+    pub(crate) fn mark(&mut self, number: usize)
+        requires { number < length self.old.log }
+        ensures { self.new ≡ record self.old { marks = with_mark self.old.marks number } }
+    {
+        self.marks.mark(number);
     }
 
     /// The merge that joining the classes of two nodes would be.

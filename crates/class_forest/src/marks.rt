@@ -1,7 +1,8 @@
 //! Marks on numbers.
 
-ghost use Rattle.std.specs.Prelude.{◌≡◌, ◌<◌, [], IfOk};
-ghost use Rattle.class_forest.specs.Marks.{is_mark, with_mark};
+ghost use Rattle.std.specs.List.{Contains, IsDistinct};
+ghost use Rattle.std.specs.Prelude.{◌≡◌, ◌↔◌, ◌<◌, [], nat_eq, IfOk, IsTrue};
+ghost use Rattle.class_forest.specs.Marks.{with_mark};
 
 use std::alloc::{AllocError, Global};
 use std::marker::Model;
@@ -51,14 +52,15 @@ impl Marks {
     /// Whether the number is marked.
     pub(crate) fn is_marked(&self, number: usize) -> bool
         requires { number < self.now.room }
-        ensures { result ≡ is_mark self.now.marks number }
+        ensures { IsTrue result ↔ Contains self.now.marks number }
     {
         self.is_marked[number]
     }
 
     /// The marks, in the order in which they were set.
     pub(crate) fn marked(&self) -> &[usize]
-        ensures { result.now ≡ self.now.marks }
+        ensures marks { result.now ≡ self.now.marks }
+        ensures once { IsDistinct nat_eq self.now.marks }
     {
         self.marks.as_slice()
     }
