@@ -9,6 +9,8 @@ pub mod forest;
 mod marks;
 pub mod merge;
 mod moving;
+#[cfg(test)]
+mod tests;
 
 pub use forest::ClassForest;
 pub use merge::Merge;

@@ -1,6 +1,6 @@
-use Rattle.std.specs.Prelude.{◌≡◌, ℕ, zero, suc, ◌+◌, ◌<◌, List, [], ◌∷◌, Option, None, Some, ◌==◌, length, map, replicate, slice_get, slice_set, if◌then◌else◌, IsTrue, IsFalse}
-use Rattle.std.specs.List.{slice_index_or}
-use Rattle.index_lists.specs.Lists.{behind, has, item_count, items_of}
+use Rattle.std.specs.Prelude.{◌≡◌, ℕ, zero, suc, ◌+◌, ◌-◌, ◌<◌, List, [], ◌∷◌, Option, None, Some, ◌==◌, length, map, nat_lt, replicate, slice_get, slice_set, if◌then◌else◌, IsTrue}
+use Rattle.std.specs.List.{range_with_len, slice_index_or}
+use Rattle.index_lists.specs.Lists.{behind, has, IsOnce, item_count, items_of}
 
 -- How the lists are kept, this project's own: by list its first item, and by item the ones behind and before it.
 
@@ -37,16 +37,20 @@ pub record IsPlaced (arrays : Arrays) (list : ℕ) (xs : List ℕ) (item : ℕ) 
   pub previous : link_of arrays.previous item ≡ before None item xs
   pub place : slice_index_or arrays.list_of item 0 ≡ list
 
--- what is kept says where the items stand in these lists, and each stands once
-pub record IsLinked (arrays : Arrays) (lists : List (List ℕ)) : Type 0 where
+-- what is kept says where the items of these lists stand, each once
+pub record AreLinked (arrays : Arrays) (lists : List (List ℕ)) : Type 0 where
   pub first : (list : ℕ) → link_of arrays.first list ≡ slice_get (items_of lists list) 0
   pub placed : (list item : ℕ) → IsTrue (has item (items_of lists list)) → IsPlaced arrays list (items_of lists list) item
-  pub once : (list item : ℕ) → IsFalse (has item (behind item (items_of lists list)))
-  pub found : (item : ℕ) → item < length arrays.next → IsTrue (has item (items_of lists (slice_index_or arrays.list_of item 0)))
+  pub once : (list : ℕ) → IsOnce (items_of lists list)
   pub first_length : length arrays.first ≡ length lists
-  pub next_length : length arrays.next ≡ item_count lists
   pub previous_length : length arrays.previous ≡ length arrays.next
   pub list_of_length : length arrays.list_of ≡ length arrays.next
+
+-- and these lists have all the items, each in the list that is kept for it
+pub record IsLinked (arrays : Arrays) (lists : List (List ℕ)) : Type 0 where
+  pub linked : AreLinked arrays lists
+  pub found : (item : ℕ) → item < length arrays.next → IsTrue (has item (items_of lists (slice_index_or arrays.list_of item 0)))
+  pub next_length : length arrays.next ≡ item_count lists
 
 -- the arrays fit the lists that they show
 abbrev pub FitTogether : Arrays → Type 0
@@ -67,13 +71,10 @@ abbrev pub first_links : ℕ → ℕ → List (Option ℕ)
 first_links lists zero = replicate lists None
 first_links lists (suc items) = slice_set (replicate lists None) 0 (Some 0)
 
--- from an item on, the next one of each where so many stand in rising order
-abbrev pub next_links : ℕ → ℕ → List (Option ℕ)
-next_links from zero = []
-next_links from (suc zero) = None ∷ []
-next_links from (suc (suc more)) = Some (from + 1) ∷ next_links (from + 1) (suc more)
+-- by item, the one behind it where so many stand in rising order
+abbrev pub next_links : ℕ → List (Option ℕ)
+next_links items = map (λ item. if nat_lt item (items - 1) then Some (item + 1) else None) (range_with_len 0 items)
 
--- from an item on, the one before each where so many stand in rising order, the first behind `front`
-abbrev pub previous_links : Option ℕ → ℕ → ℕ → List (Option ℕ)
-previous_links front from zero = []
-previous_links front from (suc more) = front ∷ previous_links (Some from) (from + 1) more
+-- by item, the one before it where so many stand in rising order
+abbrev pub previous_links : ℕ → List (Option ℕ)
+previous_links items = map (λ item. if nat_lt 0 item then Some (item - 1) else None) (range_with_len 0 items)

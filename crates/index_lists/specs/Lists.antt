@@ -59,9 +59,13 @@ all_in_first lists items = slice_set (replicate lists []) 0 (range_with_len 0 it
 abbrev pub each_alone : ℕ → List (List ℕ)
 each_alone count = map (λ item. item ∷ []) (range_with_len 0 count)
 
+-- each item is in the list once: none stands behind itself
+pub record IsOnce (xs : List ℕ) : Type 0 where
+  pub once : (item : ℕ) → IsFalse (has item (behind item xs))
+
 -- each item is in one list, once, and nothing else is in any
 pub record AreDisjoint (lists : List (List ℕ)) : Type 0 where
   pub found : (item : ℕ) → item < item_count lists → IsTrue (has item (items_of lists (list_of lists item)))
   pub items : (list item : ℕ) → IsTrue (has item (items_of lists list)) → item < item_count lists
   pub alone : (list item : ℕ) → IsTrue (has item (items_of lists list)) → list_of lists item ≡ list
-  pub once : (list item : ℕ) → IsFalse (has item (behind item (items_of lists list)))
+  pub once : (list : ℕ) → IsOnce (items_of lists list)

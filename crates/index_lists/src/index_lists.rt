@@ -109,9 +109,5 @@ impl IndexLists {
 fn numbers_below(alloc: Global, count: usize) -> Result<Vec<usize>, AllocError>
     ensures { IfOk result (λ numbers. numbers.items ≡ range_with_len 0 count) }
 {
-    let mut numbers = Vec::with_capacity(alloc, count)?;
-    for number in 0..count {
-        numbers.push(number)?;
-    }
-    Ok(numbers)
+    (0..count).collect(alloc)
 }

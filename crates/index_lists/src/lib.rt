@@ -17,5 +17,7 @@
 
 pub mod index_lists;
 mod links;
+#[cfg(test)]
+mod tests;
 
 pub use index_lists::IndexLists;

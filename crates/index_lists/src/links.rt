@@ -19,8 +19,8 @@ impl Links {
     pub(crate) fn new(alloc: Global, lists: usize, items: usize) -> Result<Links, AllocError>
         requires { 0 < items → 0 < lists }
         ensures first { IfOk result (λ links. links.first.items ≡ first_links lists items) }
-        ensures next { IfOk result (λ links. links.next.items ≡ next_links 0 items) }
-        ensures previous { IfOk result (λ links. links.previous.items ≡ previous_links None 0 items) }
+        ensures next { IfOk result (λ links. links.next.items ≡ next_links items) }
+        ensures previous { IfOk result (λ links. links.previous.items ≡ previous_links items) }
     {
         Ok(Links {
             first: first_links(alloc, lists, items)?,
@@ -98,33 +98,26 @@ fn first_links(alloc: Global, lists: usize, items: usize) -> Result<Vec<Option<u
 
 /// By item, the one behind it.
 fn next_links(alloc: Global, items: usize) -> Result<Vec<Option<usize>>, AllocError>
-    ensures { IfOk result (λ links. links.items ≡ next_links 0 items) }
+    ensures { IfOk result (λ links. links.items ≡ next_links items) }
 {
-    let mut links = vec![in alloc; None; items]?;
-    for item in 1..items {
-        links[item - 1] = Some(item);
-    }
-    Ok(links)
+    let last = items.saturating_sub(1);
+    (0..items)
+        .map(|item| if item < last { Some(item + 1) } else { None })
+        .collect(alloc)
 }
 
 /// By item, the one before it.
 fn previous_links(alloc: Global, items: usize) -> Result<Vec<Option<usize>>, AllocError>
-    ensures { IfOk result (λ links. links.items ≡ previous_links None 0 items) }
+    ensures { IfOk result (λ links. links.items ≡ previous_links items) }
 {
-    let mut links = vec![in alloc; None; items]?;
-    for item in 1..items {
-        links[item] = Some(item - 1);
-    }
-    Ok(links)
+    (0..items)
+        .map(|item| if item > 0 { Some(item - 1) } else { None })
+        .collect(alloc)
 }
 
 /// Links to the items below this number, in rising order.
 fn links_to_all(alloc: Global, count: usize) -> Result<Vec<Option<usize>>, AllocError>
     ensures { IfOk result (λ links. links.items ≡ map Some (range_with_len 0 count)) }
 {
-    let mut links = Vec::with_capacity(alloc, count)?;
-    for item in 0..count {
-        links.push(Some(item))?;
-    }
-    Ok(links)
+    (0..count).map(Some).collect(alloc)
 }
