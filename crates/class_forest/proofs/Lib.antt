@@ -6,3 +6,5 @@ pub mod Marking
 pub mod Members
 pub mod Moved
 pub mod Rooms
+pub mod Turns
+pub mod Walks

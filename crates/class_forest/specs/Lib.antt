@@ -3,3 +3,4 @@ pub mod Forest
 pub mod Joined
 pub mod Kept
 pub mod Marks
+pub mod Path

@@ -9,6 +9,7 @@ pub mod forest;
 mod marks;
 pub mod merge;
 mod moving;
+mod path;
 #[cfg(test)]
 mod tests;
 
