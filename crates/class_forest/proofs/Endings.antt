@@ -1,9 +1,9 @@
-use Rattle.std.proofs.Common.{◌≡◌, ◌≢◌, ℕ, ◌+◌, ◌<◌, ◌≤◌, suc, zero, true, false, cond, eqb, ltb, ◌⊎◌, inl, inr, List, Option, None, Some, [], ◌∷◌, ◌++◌, length, take, refl, sym, ap, ◌∙◌, subst, arith}
+use Rattle.std.proofs.Common.{◌≡◌, ◌≢◌, ℕ, ◌+◌, ◌<◌, ◌≤◌, suc, zero, cond, ltb, inl, inr, List, None, Some, [], ◌∷◌, ◌++◌, length, take, refl, sym, ap, ◌∙◌, subst, arith}
 use Rattle.std.proofs.lemmas.Bool.{cases_eq, cases_lt, eq-eqb, ne_eqb, lt-ltb, le-ltb}
 use Rattle.std.proofs.lemmas.Bool.Decides.{nat_tests}
 use Rattle.std.proofs.lemmas.List.{length_push, take_all}
 use Rattle.class_forest.specs.declared.merge.Merge.{Merge}
-use Rattle.class_forest.specs.Classes.{class_of, members, moved, IsLog, IsMerge}
+use Rattle.class_forest.specs.Classes.{class_of, members, IsLog, IsMerge}
 use Rattle.class_forest.specs.Kept.{end_of, gone_in}
 use Rattle.class_forest.proofs.Logs.{by_last, class_of-push}
 use Rattle.class_forest.proofs.Members.{both_are_classes, members-gone, moved_other, moved_went, went≢stayed}
@@ -15,8 +15,8 @@ end_of-append [] after class = grind (arith, nat_tests)
 end_of-append (m ∷ before) after class =
     let known = end_of-append before after class in
     elim (cases_eq class m.went) [
-      inl same ↦ rw (eq-eqb class m.went same) (grind (arith, nat_tests))
-    | inr other ↦ rw (ne_eqb class m.went other) (grind (arith, nat_tests))
+      | inl same ↦ rw (eq-eqb class m.went same) (grind (arith, nat_tests))
+      | inr other ↦ rw (ne_eqb class m.went other) (grind (arith, nat_tests))
     ]
 
 pub end_of-le : (log : List Merge) (class : ℕ) → end_of log class ≤ length log
@@ -43,10 +43,10 @@ class_of-before_end log class zero before = refl
 class_of-before_end [] class (suc k) before = refl
 class_of-before_end (m ∷ log) class (suc k) before =
     elim (cases_eq class m.went) [
-      inl same ↦ absurd (let e = rw (eq-eqb class m.went same) at before in omega arith)
-    | inr other ↦
-      let e = rw (ne_eqb class m.went other) at before in
-      ap (class_of (take k log)) (moved_other m class other) ∙ class_of-before_end log class k (omega arith)
+      | inl same ↦ absurd (let e = rw (eq-eqb class m.went same) at before in omega arith)
+      | inr other ↦
+          let e = rw (ne_eqb class m.went other) at before in
+          ap (class_of (take k log)) (moved_other m class other) ∙ class_of-before_end log class k (omega arith)
     ]
 
 pub class_of-still : (log : List Merge) (class : ℕ) → end_of log class ≡ length log → class_of log class ≡ class
@@ -59,20 +59,20 @@ gone_more nodes log merge valid joins known class gone same =
     let now = sym (class_of-push log merge class) ∙ same in
     let le = end_of-le log class in
     elim (cases_lt (end_of log class) (length log)) [
-      inl before ↦ elim (cases_eq (class_of log class) merge.went) [
-        inl it ↦
-        let own : merge.stayed ≡ class = sym (moved_went merge (class_of log class) it) ∙ now in
-        known class before (subst (λ one. class_of log one ≡ one) own both.1)
-      | inr it ↦ known class before (sym (moved_other merge (class_of log class) it) ∙ now)
+      | inl before ↦ elim (cases_eq (class_of log class) merge.went) [
+        | inl it ↦
+            let own : merge.stayed ≡ class = sym (moved_went merge (class_of log class) it) ∙ now in
+            known class before (subst (λ one. class_of log one ≡ one) own both.1)
+        | inr it ↦ known class before (sym (moved_other merge (class_of log class) it) ∙ now)
       ]
-    | inr after ↦ elim (cases_eq class merge.went) [
-        inl it ↦
-        let own : class_of log class ≡ merge.went = class_of-still log class (omega arith) ∙ it in
-        apart (sym it ∙ (sym now ∙ moved_went merge (class_of log class) own))
-      | inr it ↦
-        let e = end_of-push_still log merge class (omega arith) it in
-        let l = length_push log merge in
-        absurd (omega arith)
+      | inr after ↦ elim (cases_eq class merge.went) [
+        | inl it ↦
+            let own : class_of log class ≡ merge.went = class_of-still log class (omega arith) ∙ it in
+            apart (sym it ∙ (sym now ∙ moved_went merge (class_of log class) own))
+        | inr it ↦
+            let e = end_of-push_still log merge class (omega arith) it in
+            let l = length_push log merge in
+            absurd (omega arith)
       ]
     ]
 
@@ -107,8 +107,8 @@ gone_in-push_other log merge class other =
     let l = length_push log merge in
     let le = end_of-le log class in
     elim (cases_lt (end_of log class) (length log)) [
-      inl gone ↦ let e = end_of-push_gone log merge class gone in gone_in_at (log ++ merge ∷ []) class (omega arith) ∙ (ap Some e ∙ sym (gone_in_at log class gone))
-    | inr still ↦ let e = end_of-push_still log merge class (omega arith) other in gone_in_still (log ++ merge ∷ []) class (omega arith) ∙ sym (gone_in_still log class (omega arith))
+      | inl gone ↦ let e = end_of-push_gone log merge class gone in gone_in_at (log ++ merge ∷ []) class (omega arith) ∙ (ap Some e ∙ sym (gone_in_at log class gone))
+      | inr still ↦ let e = end_of-push_still log merge class (omega arith) other in gone_in_still (log ++ merge ∷ []) class (omega arith) ∙ sym (gone_in_still log class (omega arith))
     ]
 
 -- from what is kept of when a class went
@@ -117,30 +117,30 @@ pub members-gone_in : (nodes : ℕ) (log : List Merge) → IsLog nodes log → (
 members-gone_in nodes log valid class number is =
     let le = end_of-le log class in
     elim (cases_lt (end_of log class) (length log)) [
-      inl gone ↦ rw (members-gone nodes log valid class (gone_is_no_class nodes log valid class gone)) refl
-    | inr still ↦ let e : None ≡ Some number = sym (gone_in_still log class (omega arith)) ∙ is in cc
+      | inl gone ↦ rw (members-gone nodes log valid class (gone_is_no_class nodes log valid class gone)) refl
+      | inr still ↦ let e : None ≡ Some number = sym (gone_in_still log class (omega arith)) ∙ is in cc
     ]
 
 pub class_of-gone_in : (log : List Merge) (class : ℕ) → gone_in log class ≡ None → class_of log class ≡ class
 class_of-gone_in log class is =
     let le = end_of-le log class in
     elim (cases_lt (end_of log class) (length log)) [
-      inl gone ↦ let e : None ≡ Some (end_of log class) = sym is ∙ gone_in_at log class gone in cc
-    | inr still ↦ class_of-still log class (omega arith)
+      | inl gone ↦ let e : None ≡ Some (end_of log class) = sym is ∙ gone_in_at log class gone in cc
+      | inr still ↦ class_of-still log class (omega arith)
     ]
 
 pub end_of-gone_in : (log : List Merge) (class number : ℕ) → gone_in log class ≡ Some number → end_of log class ≡ number
 end_of-gone_in log class number is =
     let le = end_of-le log class in
     elim (cases_lt (end_of log class) (length log)) [
-      inl gone ↦ let e : Some (end_of log class) ≡ Some number = sym (gone_in_at log class gone) ∙ is in cc
-    | inr still ↦ let e : None ≡ Some number = sym (gone_in_still log class (omega arith)) ∙ is in cc
+      | inl gone ↦ let e : Some (end_of log class) ≡ Some number = sym (gone_in_at log class gone) ∙ is in cc
+      | inr still ↦ let e : None ≡ Some number = sym (gone_in_still log class (omega arith)) ∙ is in cc
     ]
 
 pub end_of-still_in : (log : List Merge) (class : ℕ) → gone_in log class ≡ None → end_of log class ≡ length log
 end_of-still_in log class is =
     let le = end_of-le log class in
     elim (cases_lt (end_of log class) (length log)) [
-      inl gone ↦ let e : None ≡ Some (end_of log class) = sym is ∙ gone_in_at log class gone in cc
-    | inr still ↦ omega arith
+      | inl gone ↦ let e : None ≡ Some (end_of log class) = sym is ∙ gone_in_at log class gone in cc
+      | inr still ↦ omega arith
     ]

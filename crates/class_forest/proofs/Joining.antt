@@ -1,13 +1,12 @@
-use Rattle.std.proofs.Common.{◌≡◌, ◌≢◌, ℕ, ◌+◌, ◌<◌, ◌≤◌, suc, zero, true, false, cond, eqb, ltb, ◌⊎◌, inl, inr, List, Some, [], ◌∷◌, ◌++◌, length, get_or, take, refl, sym, ap, ◌∙◌, subst, arith}
-use Rattle.std.specs.Prelude.{slice_get}
+use Rattle.std.proofs.Common.{◌≡◌, ℕ, inl, inr, List, [], ◌∷◌, ◌++◌, refl, sym, ap, ◌∙◌, subst, arith}
 use Rattle.std.specs.List.{Contains}
-use Rattle.std.proofs.lemmas.Bool.{cases_eq, cases_lt}
-use Rattle.std.proofs.lemmas.List.Elements.{Contains-append_left, Contains-append_right, Contains-push, Contains-push_cases}
+use Rattle.std.proofs.lemmas.Bool.{cases_eq}
+use Rattle.std.proofs.lemmas.List.Elements.{Contains-append_left, Contains-push, Contains-push_cases}
 use Rattle.class_forest.specs.declared.merge.Merge.{Merge}
 use Rattle.class_forest.specs.Classes.{class_of, moved, IsLog, IsMerge}
-use Rattle.class_forest.specs.Joined.{IsJoined, IsLinked}
+use Rattle.class_forest.specs.Joined.{IsJoined}
 use Rattle.class_forest.specs.Joined.IsJoined.{equal, by_merge, back, along}
-use Rattle.class_forest.proofs.Logs.{by_last, class_of-append, class_of-push}
+use Rattle.class_forest.proofs.Logs.{by_last, class_of-push}
 use Rattle.class_forest.proofs.Members.{moved_other, moved_went, Joins-IsMerge}
 
 -- more merges join what fewer do
@@ -21,17 +20,17 @@ ends_more : (nodes : ℕ) (log : List Merge) (merge : Merge) → IsMerge nodes l
 ends_more nodes log merge joins =
     let now = class_of-push log merge in
     elim (Joins-IsMerge nodes log merge joins) [
-      inl way ↦ now merge.left ∙ (moved_went merge (class_of log merge.left) (sym way.went) ∙ (way.stayed ∙ sym (now merge.right ∙ moved_other merge (class_of log merge.right) (λ e. joins.apart (sym (e ∙ way.went))))))
-    | inr way ↦ now merge.left ∙ (moved_other merge (class_of log merge.left) (λ e. joins.apart (e ∙ way.went)) ∙ sym (now merge.right ∙ (moved_went merge (class_of log merge.right) (sym way.went) ∙ way.stayed)))
+      | inl way ↦ now merge.left ∙ (moved_went merge (class_of log merge.left) (sym way.went) ∙ (way.stayed ∙ sym (now merge.right ∙ moved_other merge (class_of log merge.right) (λ e. joins.apart (sym (e ∙ way.went))))))
+      | inr way ↦ now merge.left ∙ (moved_other merge (class_of log merge.left) (λ e. joins.apart (e ∙ way.went)) ∙ sym (now merge.right ∙ (moved_went merge (class_of log merge.right) (sym way.went) ∙ way.stayed)))
     ]
 
 -- the two nodes of each merge have one class
 pub class_of-ends : (nodes : ℕ) (log : List Merge) → IsLog nodes log → (merge : Merge) → Contains log merge → class_of log merge.left ≡ class_of log merge.right
 class_of-ends nodes log valid =
     by_last nodes (λ log. (merge : Merge) → Contains log merge → class_of log merge.left ≡ class_of log merge.right) (λ merge among. absurd (omega (arith, among.1))) (λ log last _ joins known merge among. elim (Contains-push_cases log last merge among) [
-        inl before ↦ class_of-push log last merge.left ∙ (ap (moved last) (known merge before) ∙ sym (class_of-push log last merge.right))
+      | inl before ↦ class_of-push log last merge.left ∙ (ap (moved last) (known merge before) ∙ sym (class_of-push log last merge.right))
       | inr it ↦ subst (λ m. class_of (log ++ last ∷ []) m.left ≡ class_of (log ++ last ∷ []) m.right) it (ends_more nodes log last joins)
-      ]) log valid
+    ]) log valid
 
 joined_class : (log : List Merge) → ((merge : Merge) → Contains log merge → class_of log merge.left ≡ class_of log merge.right) → (x y : ℕ) → IsJoined log x y → class_of log x ≡ class_of log y
 joined_class log ends x y (equal e) = ap (class_of log) e
@@ -49,11 +48,11 @@ joined_more nodes log merge joins known x =
     let last : IsJoined (log ++ merge ∷ []) merge.left merge.right = by_merge merge (Contains-push log merge) refl refl in
     let now = class_of-push log merge x in
     elim (cases_eq (class_of log x) merge.went) [
-      inl it ↦ rw (now ∙ moved_went merge (class_of log x) it) (elim (Joins-IsMerge nodes log merge joins) [
-          inl way ↦ along (class_of log x) (all x) (subst (λ c. IsJoined (log ++ merge ∷ []) c merge.stayed) (sym (it ∙ way.went)) (along merge.left (back (all merge.left)) (along merge.right last (subst (λ c. IsJoined (log ++ merge ∷ []) merge.right c) (sym way.stayed) (all merge.right)))))
+      | inl it ↦ rw (now ∙ moved_went merge (class_of log x) it) (elim (Joins-IsMerge nodes log merge joins) [
+        | inl way ↦ along (class_of log x) (all x) (subst (λ c. IsJoined (log ++ merge ∷ []) c merge.stayed) (sym (it ∙ way.went)) (along merge.left (back (all merge.left)) (along merge.right last (subst (λ c. IsJoined (log ++ merge ∷ []) merge.right c) (sym way.stayed) (all merge.right)))))
         | inr way ↦ along (class_of log x) (all x) (subst (λ c. IsJoined (log ++ merge ∷ []) c merge.stayed) (sym (it ∙ way.went)) (along merge.right (back (all merge.right)) (along merge.left (back last) (subst (λ c. IsJoined (log ++ merge ∷ []) merge.left c) (sym way.stayed) (all merge.left)))))
-        ])
-    | inr it ↦ rw (now ∙ moved_other merge (class_of log x) it) (all x)
+      ])
+      | inr it ↦ rw (now ∙ moved_other merge (class_of log x) it) (all x)
     ]
 
 -- a node and its class are joined

@@ -1,10 +1,10 @@
-use Rattle.std.proofs.Common.{◌≡◌, ◌≢◌, ℕ, ◌+◌, ◌-◌, ◌<◌, ◌≤◌, suc, zero, true, false, cond, eqb, inl, inr, List, Option, None, Some, [], ◌∷◌, ◌++◌, length, get_or, set, take, drop, reverse, refl, sym, ap, ◌∙◌, subst, arith, length-append}
+use Rattle.std.proofs.Common.{◌≡◌, ◌≢◌, ℕ, ◌+◌, ◌-◌, ◌<◌, ◌≤◌, suc, zero, true, false, cond, eqb, inl, inr, List, Option, None, Some, [], ◌∷◌, ◌++◌, length, get_or, set, take, drop, reverse, refl, sym, ap, ◌∙◌, arith, length-append}
 use Rattle.std.proofs.lemmas.Bool.{cases_eq, eq-eqb, ne_eqb, false≢true}
 use Rattle.std.proofs.lemmas.List.{append-nil, drop_all, drop_at, get_or-set_other, get_or-set_same, get_or_read, length-reverse, length-set, reverse-reverse, take_all, take_at}
 use Rattle.index_lists.specs.Lists.{has, item_count, items_of, list_of}
 use Rattle.class_forest.specs.declared.merge.Merge.{Merge}
 use Rattle.class_forest.specs.Classes.{class_of, members, IsLog, IsMerge}
-use Rattle.class_forest.specs.Kept.{gone_in, kept_size, IsKept}
+use Rattle.class_forest.specs.Kept.{kept_size, IsKept}
 use Rattle.class_forest.proofs.Endings.{class_is_still, gone_in_still, gone_in-push_other, gone_in-push_went}
 use Rattle.class_forest.proofs.Logs.{IsLog-at, IsLog-front, IsLog-push}
 use Rattle.class_forest.proofs.Members.{both_are_classes, both_within, class_of-class_of, class_of-within, has-members, kept_size-push_other, kept_size-push_stayed, length-members, members-push_other, members-push_stayed, members-push_went, went≢stayed}
@@ -76,20 +76,20 @@ IsKept-join nodes log lists new_lists sizes gone merge went_size stayed_size num
       size_count = length-set sizes merge.stayed (stayed_size + went_size) ∙ kept.size_count;
       gone_count = length-set gone merge.went (Some number) ∙ kept.gone_count;
       members_at = λ class within. elim (cases_eq class merge.stayed) [
-          inl same ↦ rw (same, moves.target, members-push_stayed log merge, take_all went_size (items_of lists merge.went) enough, kept.members_at merge.went sides.went_in, kept.members_at merge.stayed sides.stayed_in) refl
+        | inl same ↦ rw (same, moves.target, members-push_stayed log merge, take_all went_size (items_of lists merge.went) enough, kept.members_at merge.went sides.went_in, kept.members_at merge.stayed sides.stayed_in) refl
         | inr stayed ↦ elim (cases_eq class merge.went) [
-            inl same ↦ rw (same, moves.source, members-push_went log merge sides.apart) (drop_all went_size (items_of lists merge.went) enough)
+          | inl same ↦ rw (same, moves.source, members-push_went log merge sides.apart) (drop_all went_size (items_of lists merge.went) enough)
           | inr went ↦ moves.others class went stayed ∙ (kept.members_at class within ∙ sym (members-push_other log merge class went stayed))
-          ]
-        ];
+        ]
+      ];
       size_at = λ class within. elim (cases_eq class merge.stayed) [
-          inl same ↦ rw (same, kept_size-push_stayed log merge, ← went_is, ← stayed_is) (get_or-set_same sizes merge.stayed (stayed_size + went_size) 0 (rw kept.size_count sides.stayed_in))
+        | inl same ↦ rw (same, kept_size-push_stayed log merge, ← went_is, ← stayed_is) (get_or-set_same sizes merge.stayed (stayed_size + went_size) 0 (rw kept.size_count sides.stayed_in))
         | inr stayed ↦ get_or-set_other sizes merge.stayed class (stayed_size + went_size) 0 stayed ∙ (kept.size_at class within ∙ sym (kept_size-push_other log merge class stayed))
-        ];
+      ];
       gone_at = λ class within. elim (cases_eq class merge.went) [
-          inl same ↦ rw (same, number_is) (get_or-set_same gone merge.went (Some (length log)) None (rw kept.gone_count sides.went_in) ∙ sym (gone_in-push_went nodes log merge kept.valid joins))
+        | inl same ↦ rw (same, number_is) (get_or-set_same gone merge.went (Some (length log)) None (rw kept.gone_count sides.went_in) ∙ sym (gone_in-push_went nodes log merge kept.valid joins))
         | inr went ↦ get_or-set_other gone merge.went class (Some number) None went ∙ (kept.gone_at class within ∙ sym (gone_in-push_other log merge class went))
-        ];
+      ];
     }
 
 -- what is kept at the two classes of the last merge
@@ -146,20 +146,20 @@ IsKept-undo nodes log lists new_lists sizes gone merge went_size stayed_size kep
       size_count = length-set sizes merge.stayed (stayed_size - went_size) ∙ kept.size_count;
       gone_count = length-set gone merge.went None ∙ kept.gone_count;
       members_at = λ class within. elim (cases_eq class merge.stayed) [
-          inl same ↦ rw (same, moves.source, sides.stayed_items) (drop_at (reverse (members log merge.went)) (members log merge.stayed) went_size long)
+        | inl same ↦ rw (same, moves.source, sides.stayed_items) (drop_at (reverse (members log merge.went)) (members log merge.stayed) went_size long)
         | inr stayed ↦ elim (cases_eq class merge.went) [
-            inl same ↦ rw (same, moves.target, sides.stayed_items, sides.went_items, take_at (reverse (members log merge.went)) (members log merge.stayed) went_size long, reverse-reverse, append-nil) refl
+          | inl same ↦ rw (same, moves.target, sides.stayed_items, sides.went_items, take_at (reverse (members log merge.went)) (members log merge.stayed) went_size long, reverse-reverse, append-nil) refl
           | inr went ↦ moves.others class stayed went ∙ (kept.members_at class within ∙ members-push_other log merge class went stayed)
-          ]
-        ];
+        ]
+      ];
       size_at = λ class within. elim (cases_eq class merge.stayed) [
-          inl same ↦ rw same (get_or-set_same sizes merge.stayed (stayed_size - went_size) 0 (rw kept.size_count sides.stayed_in) ∙ omega (arith, sides.stayed_kept, sides.went_kept))
+        | inl same ↦ rw same (get_or-set_same sizes merge.stayed (stayed_size - went_size) 0 (rw kept.size_count sides.stayed_in) ∙ omega (arith, sides.stayed_kept, sides.went_kept))
         | inr stayed ↦ get_or-set_other sizes merge.stayed class (stayed_size - went_size) 0 stayed ∙ (kept.size_at class within ∙ kept_size-push_other log merge class stayed)
-        ];
+      ];
       gone_at = λ class within. elim (cases_eq class merge.went) [
-          inl same ↦ rw same (get_or-set_same gone merge.went None None (rw kept.gone_count sides.went_in) ∙ sym (gone_in_still log merge.went (class_is_still nodes log sides.valid merge.went (both_are_classes nodes log merge sides.valid sides.joins).0)))
+        | inl same ↦ rw same (get_or-set_same gone merge.went None None (rw kept.gone_count sides.went_in) ∙ sym (gone_in_still log merge.went (class_is_still nodes log sides.valid merge.went (both_are_classes nodes log merge sides.valid sides.joins).0)))
         | inr went ↦ get_or-set_other gone merge.went class None None went ∙ (kept.gone_at class within ∙ gone_in-push_other log merge class went)
-        ];
+      ];
     }
 
 -- a size that was read

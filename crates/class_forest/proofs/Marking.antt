@@ -1,5 +1,5 @@
-use Rattle.std.proofs.Common.{◌≡◌, ℕ, ◌+◌, ◌<◌, ◌≤◌, Bool, true, false, ◌||◌, eqb, List, [], ◌∷◌, ◌++◌, length, get_or, set, replicate, ◌⊎◌, inl, inr, refl, sym, ap, ◌∙◌, arith}
-use Rattle.std.specs.List.{All, AllByRecursion, Contains, IsDistinct, list_any}
+use Rattle.std.proofs.Common.{◌≡◌, ℕ, ◌<◌, ◌≤◌, Bool, true, false, ◌||◌, eqb, List, [], ◌∷◌, ◌++◌, length, get_or, set, replicate, inl, inr, refl, sym, ◌∙◌, arith}
+use Rattle.std.specs.List.{AllByRecursion, Contains, IsDistinct}
 use Rattle.std.proofs.Math.Bool.{or-false}
 use Rattle.std.proofs.lemmas.Bool.{cases_Bool, cases_eq, eq-eqb, ne_eqb, eqb-true, eqb-false, or_from, or_right}
 use Rattle.std.specs.Cmp.{nat_eq_equiv}
@@ -31,9 +31,9 @@ pub AreMarks-push : (flags : List Bool) (marks : List ℕ) (number : ℕ) → Ar
 AreMarks-push flags marks number marked within fresh = record {
   within = All-push (λ n. n < length (set flags number true)) marks number (rw length-set marked.within) (rw length-set within);
   flag_at = λ other below. elim (cases_eq other number) [
-      inl same ↦ rw same (get_or-set_same flags number true false within ∙ sym (is_mark-push marks number number ∙ rw (eq-eqb number number refl) (or_right (is_mark marks number) true refl)))
+    | inl same ↦ rw same (get_or-set_same flags number true false within ∙ sym (is_mark-push marks number number ∙ rw (eq-eqb number number refl) (or_right (is_mark marks number) true refl)))
     | inr apart ↦ get_or-set_other flags number other true false apart ∙ (marked.flag_at other (rw length-set at below) ∙ sym (is_mark-push marks number other ∙ rw (ne_eqb other number apart) (or-false (is_mark marks other))))
-    ];
+  ];
   once = IsDistinct-push nat_eq_equiv marks number marked.once (sym (marked.flag_at number within) ∙ fresh);
 }
 
@@ -58,9 +58,9 @@ AreMarks-pop flags marks number marked =
     record {
       within = λ k d below. rw length-set (rw (get_or_append_left marks (number ∷ []) d k below) at (marked.within k d (rw length_push (omega arith))));
       flag_at = λ other below. elim (cases_eq other number) [
-          inl same ↦ rw same (get_or-set_same flags number false false within ∙ sym parts.1)
+        | inl same ↦ rw same (get_or-set_same flags number false false within ∙ sym parts.1)
         | inr apart ↦ get_or-set_other flags number other false false apart ∙ (marked.flag_at other (rw length-set at below) ∙ (is_mark-push marks number other ∙ rw (ne_eqb other number apart) (or-false (is_mark marks other))))
-        ];
+      ];
       once = parts.0;
     }
 
@@ -85,16 +85,16 @@ Contains-is_mark marks number among = list_any-from_Contains nat_eq_equiv number
 pub with_mark-grows : (marks : List ℕ) (number limit : ℕ) → number < limit → GrowsBelow limit marks (with_mark marks number)
 with_mark-grows marks number limit below =
     elim (cases_Bool (is_mark marks number)) [
-      inl is ↦ rw is ([], sym (append-nil marks), λ k d in'. absurd (omega arith))
-    | inr is ↦ rw is (number ∷ [], refl, All-cons (λ n. n < limit) number [] below (All-nil (λ n. n < limit)))
+      | inl is ↦ rw is ([], sym (append-nil marks), λ k d in'. absurd (omega arith))
+      | inr is ↦ rw is (number ∷ [], refl, All-cons (λ n. n < limit) number [] below (All-nil (λ n. n < limit)))
     ]
 
 -- and is among them then
 pub Contains-with_mark : (marks : List ℕ) (number : ℕ) → Contains (with_mark marks number) number
 Contains-with_mark marks number =
     elim (cases_Bool (is_mark marks number)) [
-      inl is ↦ rw is (is_mark-Contains marks number is)
-    | inr is ↦ rw is (Contains-push marks number)
+      | inl is ↦ rw is (is_mark-Contains marks number is)
+      | inr is ↦ rw is (Contains-push marks number)
     ]
 
 -- marks that grew twice

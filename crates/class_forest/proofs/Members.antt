@@ -1,14 +1,13 @@
-use Rattle.std.proofs.Common.{◌≡◌, ◌≢◌, ℕ, ◌+◌, ◌<◌, ◌≤◌, Bool, true, false, cond, ◌||◌, eqb, ltb, ◌⊎◌, inl, inr, List, [], ◌∷◌, ◌++◌, length, reverse, refl, sym, ap, ◌∙◌, subst, arith, rules, length-append}
-use Rattle.std.specs.List.{list_any}
+use Rattle.std.proofs.Common.{◌≡◌, ◌≢◌, ℕ, ◌+◌, ◌<◌, ◌≤◌, true, false, cond, ◌||◌, eqb, ltb, ◌⊎◌, inl, inr, List, [], ◌∷◌, ◌++◌, length, reverse, refl, sym, ap, ◌∙◌, arith, length-append}
 use Rattle.std.proofs.Math.Bool.{or-false}
-use Rattle.std.proofs.lemmas.Bool.{cases_eq, cases_lt, cases_Bool, eq-eqb, ne_eqb, eqb-true, lt-ltb, le-ltb, false_from_ne_true, or_left, false≢true}
+use Rattle.std.proofs.lemmas.Bool.{cases_eq, cases_lt, eq-eqb, ne_eqb, lt-ltb, le-ltb, or_left, false≢true}
 use Rattle.std.proofs.lemmas.Bool.Decides.{nat_tests}
 use Rattle.std.proofs.lemmas.List.{length-reverse}
 use Rattle.std.proofs.lemmas.List.Folds.{list_any-append}
 use Rattle.std.proofs.lemmas.List.Sorted.{IsPermutation-reverse, list_any-IsPermutation}
 use Rattle.index_lists.specs.Lists.{has}
 use Rattle.class_forest.specs.declared.merge.Merge.{Merge}
-use Rattle.class_forest.specs.Classes.{class_of, members, members_after, merge_of, merge_of_classes, moved, IsLog, IsMerge}
+use Rattle.class_forest.specs.Classes.{class_of, members, merge_of, merge_of_classes, moved, IsLog, IsMerge}
 use Rattle.class_forest.specs.Kept.{kept_size, sizes_after, sizes_from}
 use Rattle.class_forest.proofs.Logs.{by_last, class_of-push, members-push}
 
@@ -21,8 +20,8 @@ pub record Joins (log : List Merge) (merge : Merge) (one other : ℕ) : Type 0 w
 Joins-cases : (log : List Merge) (merge : Merge) (one other left right reason : ℕ) → merge ≡ merge_of_classes log one other left right reason → Joins log merge one other ⊎ Joins log merge other one
 Joins-cases log merge one other left right reason is =
     elim (cases_lt (length (members log one)) (length (members log other))) [
-      inl less ↦ let e = rw (lt-ltb _ _ less) at is in inl (record { went = ap (λ m. m.went) e; stayed = ap (λ m. m.stayed) e; sizes = omega arith })
-    | inr more ↦ let e = rw (le-ltb _ _ more) at is in inr (record { went = ap (λ m. m.went) e; stayed = ap (λ m. m.stayed) e; sizes = omega arith })
+      | inl less ↦ let e = rw (lt-ltb _ _ less) at is in inl (record { went = ap (λ m. m.went) e; stayed = ap (λ m. m.stayed) e; sizes = omega arith })
+      | inr more ↦ let e = rw (le-ltb _ _ more) at is in inr (record { went = ap (λ m. m.went) e; stayed = ap (λ m. m.stayed) e; sizes = omega arith })
     ]
 
 -- one of the two nodes' classes goes into the other's
@@ -44,15 +43,15 @@ moved_other merge class other = ap (λ test. cond test merge.stayed class) (ne_e
 pub of_both : (nodes : ℕ) (P : ℕ → Type 0) (log : List Merge) (merge : Merge) → ((node : ℕ) → node < nodes → P (class_of log node)) → IsMerge nodes log merge → P merge.went × P merge.stayed
 of_both nodes P log merge known joins =
     elim (Joins-IsMerge nodes log merge joins) [
-      inl way ↦ (rw way.went (known merge.left joins.left_in), rw way.stayed (known merge.right joins.right_in))
-    | inr way ↦ (rw way.went (known merge.right joins.right_in), rw way.stayed (known merge.left joins.left_in))
+      | inl way ↦ (rw way.went (known merge.left joins.left_in), rw way.stayed (known merge.right joins.right_in))
+      | inr way ↦ (rw way.went (known merge.right joins.right_in), rw way.stayed (known merge.left joins.left_in))
     ]
 
 within_more : (nodes : ℕ) (log : List Merge) (merge : Merge) → IsMerge nodes log merge → ((node : ℕ) → node < nodes → class_of log node < nodes) → (node : ℕ) → node < nodes → class_of (log ++ merge ∷ []) node < nodes
 within_more nodes log merge joins known node within =
     elim (cases_eq (class_of log node) merge.went) [
-      inl same ↦ rw (class_of-push log merge node ∙ moved_went merge (class_of log node) same) (of_both nodes (λ class. class < nodes) log merge known joins).1
-    | inr other ↦ rw (class_of-push log merge node ∙ moved_other merge (class_of log node) other) (known node within)
+      | inl same ↦ rw (class_of-push log merge node ∙ moved_went merge (class_of log node) same) (of_both nodes (λ class. class < nodes) log merge known joins).1
+      | inr other ↦ rw (class_of-push log merge node ∙ moved_other merge (class_of log node) other) (known node within)
     ]
 
 -- the class of a node is one of the nodes
@@ -65,8 +64,8 @@ stays_more nodes log merge joins known node =
     let apart = went≢stayed nodes log merge joins in
     let stayed : class_of log merge.stayed ≡ merge.stayed = (of_both nodes (λ class. class_of log class ≡ class) log merge (λ one _. known one) joins).1 in
     elim (cases_eq (class_of log node) merge.went) [
-      inl same ↦ rw (class_of-push log merge node ∙ moved_went merge (class_of log node) same) (class_of-push log merge merge.stayed ∙ (ap (moved merge) stayed ∙ moved_other merge merge.stayed (λ e. apart (sym e))))
-    | inr other ↦ rw (class_of-push log merge node ∙ moved_other merge (class_of log node) other) (class_of-push log merge (class_of log node) ∙ (ap (moved merge) (known node) ∙ moved_other merge (class_of log node) other))
+      | inl same ↦ rw (class_of-push log merge node ∙ moved_went merge (class_of log node) same) (class_of-push log merge merge.stayed ∙ (ap (moved merge) stayed ∙ moved_other merge merge.stayed (λ e. apart (sym e))))
+      | inr other ↦ rw (class_of-push log merge node ∙ moved_other merge (class_of log node) other) (class_of-push log merge (class_of log node) ∙ (ap (moved merge) (known node) ∙ moved_other merge (class_of log node) other))
     ]
 
 -- the class of a node is its own class
@@ -112,16 +111,16 @@ has_more nodes log merge joins known class node =
     let apart = went≢stayed nodes log merge joins in
     let now = class_of-push log merge node in
     elim (cases_eq class merge.stayed) [
-      inl same ↦ rw (same, members-push_stayed log merge, has-append node (reverse (members log merge.went)) (members log merge.stayed), has-reverse node (members log merge.went), known merge.went node, known merge.stayed node, now) (true_at merge.went merge.stayed class (class_of log node) apart)
-    | inr stayed ↦ elim (cases_eq class merge.went) [
-        inl same ↦ rw (same, members-push_went log merge apart, now) (elim (cases_eq (class_of log node) merge.went) [
-            inl it ↦ rw (moved_went merge (class_of log node) it) (sym (ne_eqb merge.went merge.stayed apart))
+      | inl same ↦ rw (same, members-push_stayed log merge, has-append node (reverse (members log merge.went)) (members log merge.stayed), has-reverse node (members log merge.went), known merge.went node, known merge.stayed node, now) (true_at merge.went merge.stayed class (class_of log node) apart)
+      | inr stayed ↦ elim (cases_eq class merge.went) [
+        | inl same ↦ rw (same, members-push_went log merge apart, now) (elim (cases_eq (class_of log node) merge.went) [
+          | inl it ↦ rw (moved_went merge (class_of log node) it) (sym (ne_eqb merge.went merge.stayed apart))
           | inr it ↦ rw (moved_other merge (class_of log node) it) (sym (ne_eqb merge.went (class_of log node) (λ e. it (sym e))))
-          ])
-      | inr went ↦ rw (members-push_other log merge class went stayed, known class node, now) (elim (cases_eq (class_of log node) merge.went) [
-            inl it ↦ rw (moved_went merge (class_of log node) it) (ne_eqb class (class_of log node) (λ e. went (e ∙ it)) ∙ sym (ne_eqb class merge.stayed stayed))
+        ])
+        | inr went ↦ rw (members-push_other log merge class went stayed, known class node, now) (elim (cases_eq (class_of log node) merge.went) [
+          | inl it ↦ rw (moved_went merge (class_of log node) it) (ne_eqb class (class_of log node) (λ e. went (e ∙ it)) ∙ sym (ne_eqb class merge.stayed stayed))
           | inr it ↦ rw (moved_other merge (class_of log node) it) refl
-          ])
+        ])
       ]
     ]
 
@@ -157,12 +156,12 @@ size_more nodes log merge valid joins known class is =
     let both = both_are_classes nodes log merge valid joins in
     let now = sym (class_of-push log merge class) ∙ is in
     elim (cases_eq class merge.stayed) [
-      inl same ↦ rw (same, members-push_stayed log merge, kept_size-push_stayed log merge, length-append, length-reverse, known merge.went both.0, known merge.stayed both.1) (omega arith)
-    | inr stayed ↦ elim (cases_eq (class_of log class) merge.went) [
-        inl it ↦ absurd (stayed (sym now ∙ moved_went merge (class_of log class) it))
-      | inr it ↦
-        let own : class_of log class ≡ class = sym (moved_other merge (class_of log class) it) ∙ now in
-        rw (members-push_other log merge class (λ e. it (own ∙ e)) stayed, kept_size-push_other log merge class stayed) (known class own)
+      | inl same ↦ rw (same, members-push_stayed log merge, kept_size-push_stayed log merge, length-append, length-reverse, known merge.went both.0, known merge.stayed both.1) (omega arith)
+      | inr stayed ↦ elim (cases_eq (class_of log class) merge.went) [
+        | inl it ↦ absurd (stayed (sym now ∙ moved_went merge (class_of log class) it))
+        | inr it ↦
+            let own : class_of log class ≡ class = sym (moved_other merge (class_of log class) it) ∙ now in
+            rw (members-push_other log merge class (λ e. it (own ∙ e)) stayed, kept_size-push_other log merge class stayed) (known class own)
       ]
     ]
 

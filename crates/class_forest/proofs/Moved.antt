@@ -1,8 +1,8 @@
-use Rattle.std.proofs.Common.{◌≡◌, ◌≢◌, ℕ, ◌+◌, ◌<◌, List, Option, None, Some, [], ◌∷◌, ◌++◌, length, get_or, set, take, drop, reverse, cond, true, eqb, refl, sym, ap, ◌∙◌, arith}
+use Rattle.std.proofs.Common.{◌≡◌, ◌≢◌, ℕ, ◌+◌, ◌<◌, List, None, Some, [], ◌∷◌, ◌++◌, length, get_or, take, drop, reverse, cond, refl, sym, ap, ◌∙◌}
 use Rattle.std.specs.Prelude.{slice_get}
 use Rattle.std.proofs.lemmas.Bool.{eq-eqb}
 use Rattle.std.proofs.lemmas.List.{drop_more, get_or-set_same, get_or-set_other, length-set, reverse-append, take_more}
-use Rattle.index_lists.specs.Lists.{items_of, list_of, moved_to, put_first, taken_out, without}
+use Rattle.index_lists.specs.Lists.{items_of, list_of, moved_to, taken_out, without}
 
 without-first : (item : ℕ) (items : List ℕ) → without item (item ∷ items) ≡ items
 without-first item items = ap (λ test. cond test items (item ∷ without item items)) (eq-eqb item item refl)

@@ -1,15 +1,15 @@
-use Rattle.std.proofs.Common.{◌≡◌, ◌≢◌, ℕ, ◌+◌, ◌<◌, ◌≤◌, true, false, ◌||◌, eqb, inl, inr, List, [], ◌∷◌, ◌++◌, length, get_or, set, map, refl, sym, ap, ◌∙◌, subst, arith}
+use Rattle.std.proofs.Common.{◌≡◌, ◌≢◌, ℕ, ◌+◌, ◌<◌, ◌≤◌, true, false, ◌||◌, eqb, inl, inr, List, [], ◌∷◌, ◌++◌, length, set, map, sym, ap, ◌∙◌, subst, arith}
 use Rattle.std.specs.Cmp.{nat_eq_equiv}
 use Rattle.std.specs.List.{IsDistinct, list_any}
 use Rattle.std.proofs.lemmas.Bool.{cases_eq, eqb-true, false_from_ne_true, or_cases}
-use Rattle.std.proofs.lemmas.List.{get_or-set_same, get_or-set_other, length-map, length-set, length_push, map-append}
+use Rattle.std.proofs.lemmas.List.{get_or-set_other, length-map, length-set, length_push, map-append}
 use Rattle.std.proofs.lemmas.List.Folds.{list_any-append}
 use Rattle.std.proofs.lemmas.List.Sums.{sum_by-set, sum_by_more_le}
 use Rattle.std.proofs.lemmas.Map.Keys.{IsDistinct-push}
 use Rattle.std.proofs.lemmas.Map.Steps.{length-le_from_distinct_below}
 use Rattle.index_lists.specs.Lists.{item_count, items_of}
 use Rattle.class_forest.specs.declared.merge.Merge.{Merge}
-use Rattle.class_forest.specs.Classes.{class_of, moved, IsLog, IsMerge}
+use Rattle.class_forest.specs.Classes.{class_of, IsLog, IsMerge}
 use Rattle.class_forest.proofs.Logs.{by_last, class_of-push, IsLog-push}
 use Rattle.class_forest.proofs.Members.{both_are_classes, both_within, moved_other, moved_went, went≢stayed}
 
@@ -30,8 +30,8 @@ went_cases : (log : List Merge) (merge : Merge) (P : ℕ → Type 0) → ((class
 went_cases log merge P before last class is =
     let parts = sym (list_any-append (eqb class) (went_of log) (merge.went ∷ [])) ∙ (ap (list_any (eqb class)) (sym (went_of-push log merge)) ∙ is) in
     elim (or_cases (list_any (eqb class) (went_of log)) (eqb class merge.went || false) parts) [
-      inl known ↦ before class known
-    | inr it ↦ elim (or_cases (eqb class merge.went) false it) [ inl same ↦ subst P (sym (eqb-true class merge.went same)) last | inr never ↦ cc ]
+      | inl known ↦ before class known
+      | inr it ↦ elim (or_cases (eqb class merge.went) false it) [ inl same ↦ subst P (sym (eqb-true class merge.went same)) last | inr never ↦ cc ]
     ]
 
 gone_after : (nodes : ℕ) (log : List Merge) (merge : Merge) → IsLog nodes log → IsMerge nodes log merge → (class : ℕ) → class_of log class ≢ class → class_of (log ++ merge ∷ []) class ≢ class
@@ -39,8 +39,8 @@ gone_after nodes log merge valid joins class gone same =
     let both = both_are_classes nodes log merge valid joins in
     let now = sym (class_of-push log merge class) ∙ same in
     elim (cases_eq (class_of log class) merge.went) [
-      inl it ↦ gone (subst (λ one. class_of log one ≡ one) (sym (moved_went merge (class_of log class) it) ∙ now) both.1)
-    | inr it ↦ gone (sym (moved_other merge (class_of log class) it) ∙ now)
+      | inl it ↦ gone (subst (λ one. class_of log one ≡ one) (sym (moved_went merge (class_of log class) it) ∙ now) both.1)
+      | inr it ↦ gone (sym (moved_other merge (class_of log class) it) ∙ now)
     ]
 
 AreGone-more : (nodes : ℕ) (log : List Merge) (merge : Merge) → IsLog nodes log → IsMerge nodes log merge → AreGone nodes log → AreGone nodes (log ++ merge ∷ [])

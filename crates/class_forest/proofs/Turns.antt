@@ -1,11 +1,11 @@
-use Rattle.std.proofs.Common.{◌≡◌, ◌≢◌, ℕ, ◌+◌, ◌-◌, ◌^◌, ◌<◌, ◌≤◌, suc, zero, true, false, cond, eqb, ◌⊎◌, inl, inr, List, None, Some, [], ◌∷◌, ◌++◌, length, get_or, take, drop, refl, sym, ap, ◌∙◌, subst, arith, add-one}
+use Rattle.std.proofs.Common.{◌≡◌, ◌≢◌, ℕ, ◌+◌, ◌-◌, ◌^◌, ◌<◌, ◌≤◌, suc, ◌⊎◌, inl, inr, List, Some, [], ◌∷◌, ◌++◌, length, take, refl, sym, ap, ◌∙◌, subst, arith, add-one}
 use Rattle.std.specs.Prelude.{slice_get}
 use Rattle.std.specs.List.{Contains}
-use Rattle.std.proofs.lemmas.Bool.{cases_eq, cases_lt, eq-eqb, ne_eqb}
+use Rattle.std.proofs.lemmas.Bool.{cases_eq, eq-eqb, ne_eqb}
 use Rattle.std.proofs.lemmas.List.{take_all, take_more}
 use Rattle.class_forest.specs.declared.merge.Merge.{Merge}
 use Rattle.class_forest.specs.declared.path.Split.{Split}
-use Rattle.class_forest.specs.Classes.{class_of, members, moved, IsLog, IsMerge}
+use Rattle.class_forest.specs.Classes.{class_of, moved, IsLog, IsMerge}
 use Rattle.class_forest.specs.Joined.{GrowsBelow, IsLinked}
 use Rattle.class_forest.specs.Joined.IsLinked.{equal, by_merge, back, along}
 use Rattle.class_forest.specs.Kept.{kept_size}
@@ -14,8 +14,8 @@ use Rattle.class_forest.specs.Marks.{with_mark}
 use Rattle.std.proofs.lemmas.List.Elements.{Contains-append_left}
 use Rattle.class_forest.proofs.Marking.{Contains-with_mark, GrowsBelow-twice, GrowsBelow-wider, IsLinked-grows, with_mark-grows}
 use Rattle.class_forest.proofs.Logs.{class_of-push}
-use Rattle.class_forest.proofs.Members.{both_are_classes, kept_size-push_stayed, length-members, moved_other, moved_went, went_smaller, went≢stayed, Joins-IsMerge}
-use Rattle.class_forest.proofs.Walks.{apart_before, class_of-joined_at, get_or-slice_get, halves, joined_at-least, joined_at-length, kept_size-positive, same_later, size_later, IsLog-take, IsMerge-at}
+use Rattle.class_forest.proofs.Members.{both_are_classes, kept_size-push_stayed, length-members, moved_other, moved_went, went_smaller, Joins-IsMerge}
+use Rattle.class_forest.proofs.Walks.{class_of-joined_at, get_or-slice_get, halves, joined_at-least, kept_size-positive, same_later, size_later, IsLog-take, IsMerge-at}
 
 -- the nodes of a merge, the one in the class that went and the other
 pub record Ends (nodes : ℕ) (front : List Merge) (merge : Merge) (gone kept : ℕ) : Type 0 where
@@ -28,18 +28,18 @@ pub record Ends (nodes : ℕ) (front : List Merge) (merge : Merge) (gone kept : 
 pub Ends-of : (nodes : ℕ) (front : List Merge) (merge : Merge) → IsMerge nodes front merge → Ends nodes front merge (gone_end (class_of front merge.left) merge) (kept_end (class_of front merge.left) merge)
 Ends-of nodes front merge joins =
     elim (Joins-IsMerge nodes front merge joins) [
-      inl way ↦ rw (eq-eqb (class_of front merge.left) merge.went (sym way.went)) (record { gone_in = joins.left_in; kept_in = joins.right_in; gone_class = sym way.went; kept_class = sym way.stayed; which = inl (refl, refl) })
-    | inr way ↦ rw (ne_eqb (class_of front merge.left) merge.went (λ e. joins.apart (e ∙ way.went))) (record { gone_in = joins.right_in; kept_in = joins.left_in; gone_class = sym way.went; kept_class = sym way.stayed; which = inr (refl, refl) })
+      | inl way ↦ rw (eq-eqb (class_of front merge.left) merge.went (sym way.went)) (record { gone_in = joins.left_in; kept_in = joins.right_in; gone_class = sym way.went; kept_class = sym way.stayed; which = inl (refl, refl) })
+      | inr way ↦ rw (ne_eqb (class_of front merge.left) merge.went (λ e. joins.apart (e ∙ way.went))) (record { gone_in = joins.right_in; kept_in = joins.left_in; gone_class = sym way.went; kept_class = sym way.stayed; which = inr (refl, refl) })
     ]
 
 -- of two classes that a merge joins, one is the class that goes and the other the one that stays
 sides : (merge : Merge) (a b : ℕ) → a ≢ b → moved merge a ≡ moved merge b → ((a ≡ merge.went) × (b ≡ merge.stayed)) ⊎ ((a ≢ merge.went) × (b ≡ merge.went) × (a ≡ merge.stayed))
 sides merge a b apart one =
     elim (cases_eq a merge.went) [
-      inl it ↦ inl (it, sym (moved_other merge b (λ e. apart (it ∙ sym e))) ∙ (sym one ∙ moved_went merge a it))
-    | inr it ↦ elim (cases_eq b merge.went) [
-        inl other ↦ inr (it, other, sym (moved_other merge a it) ∙ (one ∙ moved_went merge b other))
-      | inr other ↦ absurd (apart (sym (moved_other merge a it) ∙ (one ∙ moved_other merge b other)))
+      | inl it ↦ inl (it, sym (moved_other merge b (λ e. apart (it ∙ sym e))) ∙ (sym one ∙ moved_went merge a it))
+      | inr it ↦ elim (cases_eq b merge.went) [
+        | inl other ↦ inr (it, other, sym (moved_other merge a it) ∙ (one ∙ moved_went merge b other))
+        | inr other ↦ absurd (apart (sym (moved_other merge a it) ∙ (one ∙ moved_other merge b other)))
       ]
     ]
 

@@ -1,16 +1,16 @@
-use Rattle.std.proofs.Common.{◌≡◌, ◌≢◌, ℕ, ◌+◌, ◌-◌, ◌*◌, ◌^◌, ◌<◌, ◌≤◌, suc, zero, true, false, cond, eqb, ltb, ◌⊎◌, inl, inr, List, None, Some, [], ◌∷◌, ◌++◌, length, get_or, take, drop, refl, sym, ap, ◌∙◌, subst, arith, add-one}
+use Rattle.std.proofs.Common.{◌≡◌, ◌≢◌, ℕ, ◌+◌, ◌-◌, ◌^◌, ◌<◌, ◌≤◌, suc, zero, cond, ltb, inl, inr, List, None, Some, [], ◌∷◌, ◌++◌, length, get_or, take, drop, sym, ap, ◌∙◌, subst, arith, add-one}
 use Rattle.std.specs.Prelude.{slice_get}
 use Rattle.std.proofs.Math.Nat.{pow-suc}
 use Rattle.std.proofs.lemmas.Bool.{cases_eq, cases_lt, eq-eqb, le-ltb, ne_eqb}
-use Rattle.std.proofs.lemmas.List.{append-nil, append_assoc, drop_more, length-take-le, take-append-drop, take-take, take_all, take_more}
+use Rattle.std.proofs.lemmas.List.{append-nil, drop_more, length-take-le, take-append-drop, take-take, take_all, take_more}
 use Rattle.std.proofs.Math.Seq.{append_snoc}
 use Rattle.class_forest.specs.declared.merge.Merge.{Merge}
-use Rattle.class_forest.specs.Classes.{class_of, members, moved, IsLog, IsMerge}
+use Rattle.class_forest.specs.Classes.{class_of, moved, IsLog, IsMerge}
 use Rattle.class_forest.specs.Kept.{end_of, kept_size, sizes_after, sizes_from}
 use Rattle.class_forest.specs.Path.{joined_at}
 use Rattle.class_forest.proofs.Endings.{class_is_still, class_of-before_end, class_of-still, end_of-append, end_of-le}
-use Rattle.class_forest.proofs.Logs.{class_of-append, class_of-push, IsLog-at, IsLog-front, IsLog-push}
-use Rattle.class_forest.proofs.Members.{both_are_classes, class_of-class_of, class_of-within, kept_size-push_other, kept_size-push_stayed, length-members, moved_other, moved_went, went_smaller}
+use Rattle.class_forest.proofs.Logs.{class_of-append, class_of-push, IsLog-at, IsLog-front}
+use Rattle.class_forest.proofs.Members.{class_of-class_of, class_of-within, kept_size-push_other, kept_size-push_stayed, moved_other, moved_went}
 
 -- the first merges of a log
 
@@ -60,8 +60,8 @@ pub went_at : (log : List Merge) (class : ℕ) (merge : Merge) → end_of log cl
 went_at [] class merge gone = absurd (omega arith)
 went_at (m ∷ log) class merge gone =
     elim (cases_eq class m.went) [
-      inl it ↦ rw (eq-eqb class m.went it) (sym it)
-    | inr it ↦ let less = rw (ne_eqb class m.went it) at gone in rw (ne_eqb class m.went it, add-one) (went_at log class merge (omega arith))
+      | inl it ↦ rw (eq-eqb class m.went it) (sym it)
+      | inr it ↦ let less = rw (ne_eqb class m.went it) at gone in rw (ne_eqb class m.went it, add-one) (went_at log class merge (omega arith))
     ]
 
 -- where a class goes
@@ -101,8 +101,8 @@ pub class_of-joined_at : (log : List Merge) (x y : ℕ) → class_of log x ≡ c
 class_of-joined_at [] x y one = one
 class_of-joined_at (m ∷ log) x y one =
     elim (cases_eq x y) [
-      inl it ↦ rw (eq-eqb x y it) it
-    | inr it ↦ rw (ne_eqb x y it) (class_of-joined_at log (moved m x) (moved m y) one)
+      | inl it ↦ rw (eq-eqb x y it) it
+      | inr it ↦ rw (ne_eqb x y it) (class_of-joined_at log (moved m x) (moved m y) one)
     ]
 
 pub joined_at-length : (log : List Merge) (x y : ℕ) → class_of log x ≡ class_of log y → joined_at log x y ≤ length log
@@ -112,8 +112,8 @@ joined_at-length log x y one = joined_at-least log (length log) x y (rw (take_al
 pub apart_before : (nodes : ℕ) (log : List Merge) → IsLog nodes log → (x y : ℕ) → class_of log x ≡ class_of log y → (count : ℕ) → class_of (take count log) x ≢ class_of (take count log) y → count < joined_at log x y
 apart_before nodes log valid x y one count apart =
     elim (cases_lt count (joined_at log x y)) [
-      inl less ↦ less
-    | inr more ↦ absurd (apart (same_later nodes log valid (joined_at log x y) count x y more (class_of-joined_at log x y one)))
+      | inl less ↦ less
+      | inr more ↦ absurd (apart (same_later nodes log valid (joined_at log x y) count x y more (class_of-joined_at log x y one)))
     ]
 
 -- where two classes that are still apart differ in when they go, the earlier goes up
@@ -141,12 +141,12 @@ pub ends_differ : (nodes : ℕ) (log : List Merge) → IsLog nodes log → (coun
 ends_differ nodes log valid count x y one other within joined one_is other_is apart ends =
     let le = end_of-le log one in
     elim (cases_lt (end_of log one) (length log)) [
-      inl gone ↦
-      let merge : Merge = record { left = 0; right = 0; went = 0; stayed = 0; reason = 0 } in
-      apart (sym (went_at log one merge gone) ∙ (ap (λ end. (get_or log end merge).went) ends ∙ went_at log other merge (omega arith)))
-    | inr still ↦
-      let at : (node class : ℕ) → class ≡ class_of (take count log) node → end_of log class ≡ length log → class ≡ class_of log node = λ node class is end. sym (class_of-still log class end) ∙ (ap (class_of log) is ∙ class_of-in_the_end nodes log valid count node within) in
-      apart (at x one one_is (omega arith) ∙ (joined ∙ sym (at y other other_is (omega arith))))
+      | inl gone ↦
+          let merge : Merge = record { left = 0; right = 0; went = 0; stayed = 0; reason = 0 } in
+          apart (sym (went_at log one merge gone) ∙ (ap (λ end. (get_or log end merge).went) ends ∙ went_at log other merge (omega arith)))
+      | inr still ↦
+          let at : (node class : ℕ) → class ≡ class_of (take count log) node → end_of log class ≡ length log → class ≡ class_of log node = λ node class is end. sym (class_of-still log class end) ∙ (ap (class_of log) is ∙ class_of-in_the_end nodes log valid count node within) in
+          apart (at x one one_is (omega arith) ∙ (joined ∙ sym (at y other other_is (omega arith))))
     ]
 
 -- sizes along a log
@@ -155,9 +155,9 @@ sizes_positive : (sizes : ℕ → ℕ) (log : List Merge) (class : ℕ) → ((c 
 sizes_positive sizes [] class positive = positive class
 sizes_positive sizes (m ∷ log) class positive =
     sizes_positive (sizes_after sizes m) log class (λ c. elim (cases_eq c m.stayed) [
-        inl it ↦ rw (eq-eqb c m.stayed it) (omega (arith, positive m.stayed))
+      | inl it ↦ rw (eq-eqb c m.stayed it) (omega (arith, positive m.stayed))
       | inr it ↦ rw (ne_eqb c m.stayed it) (positive c)
-      ])
+    ])
 
 pub kept_size-positive : (log : List Merge) (class : ℕ) → 0 < kept_size log class
 kept_size-positive log class = sizes_positive (λ _. 1) log class (λ c. omega arith)
@@ -167,12 +167,12 @@ size_grows log merge node =
     let class = class_of log node in
     let stayed = kept_size-push_stayed log merge in
     rw (class_of-push log merge node) (elim (cases_eq class merge.went) [
-        inl it ↦ rw (moved_went merge class it, it, stayed) (omega arith)
+      | inl it ↦ rw (moved_went merge class it, it, stayed) (omega arith)
       | inr it ↦ rw (moved_other merge class it) (elim (cases_eq class merge.stayed) [
-          inl same ↦ rw (same, stayed) (omega arith)
+        | inl same ↦ rw (same, stayed) (omega arith)
         | inr other ↦ rw (kept_size-push_other log merge class other) (omega arith)
-        ])
       ])
+    ])
 
 size_grows_more : (before after : List Merge) (node : ℕ) → kept_size before (class_of before node) ≤ kept_size (before ++ after) (class_of (before ++ after) node)
 size_grows_more before [] node = rw append-nil (omega arith)

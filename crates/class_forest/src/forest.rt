@@ -201,7 +201,11 @@ impl ClassForest {
     {
         let one = self.class(left);
         let other = self.class(right);
-        let (went, stayed) = if self.size(one) < self.size(other) { (one, other) } else { (other, one) };
+        let (went, stayed) = if self.size(one) < self.size(other) {
+            (one, other)
+        } else {
+            (other, one)
+        };
         Merge {
             left,
             right,

@@ -32,10 +32,7 @@ impl Marks {
     {
         let is_marked = vec![in alloc; false; room]?;
         let marks = Vec::with_capacity(alloc, room)?;
-        Ok(Marks {
-            is_marked,
-            marks,
-        })
+        Ok(Marks { is_marked, marks })
     }
 
     /// Marks a number, if it isn't marked.

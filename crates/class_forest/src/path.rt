@@ -153,12 +153,20 @@ impl ClassForest {
 fn gone_end(merge: Merge, class: usize) -> usize
     ensures { result ≡ gone_end class merge }
 {
-    if class == merge.went { merge.left } else { merge.right }
+    if class == merge.went {
+        merge.left
+    } else {
+        merge.right
+    }
 }
 
 /// The other one.
 fn kept_end(merge: Merge, class: usize) -> usize
     ensures { result ≡ kept_end class merge }
 {
-    if class == merge.went { merge.right } else { merge.left }
+    if class == merge.went {
+        merge.right
+    } else {
+        merge.left
+    }
 }

@@ -1,5 +1,4 @@
-ghost use Rattle.std.specs.Prelude.{◌≡◌, ◌<◌, ◌≤◌, ◌^◌, length};
-ghost use Rattle.class_forest.specs.Classes.{class_of};
+ghost use Rattle.std.specs.Prelude.{◌≡◌, ◌<◌, length};
 
 use crate::ClassForest;
 use std::process::Abort;
@@ -39,6 +38,22 @@ fn assert_members(rt: &impl Abort, forest: &ClassForest, node: usize, members: &
     assert_eq!(rt; at, None);
 }
 
+/// Asserts that the way between two nodes marks the merges of these numbers and no others.
+fn assert_path(rt: &impl Abort, forest: &mut ClassForest, x: usize, y: usize, numbers: &[usize])
+    requires x_within { x < forest.old.nodes }
+    requires y_within { y < forest.old.nodes }
+    ensures { forest.new.nodes ≡ forest.old.nodes }
+{
+    forest.unmark_all();
+    assert_eq!(rt; forest.class(x), forest.class(y));
+    forest.mark_path(x, y);
+    assert_eq!(rt; forest.marked().len(), numbers.len());
+    for number in numbers {
+        assert!(rt; *number < forest.merges());
+        assert!(rt; forest.is_marked(*number));
+    }
+}
+
 #[test]
 fn the_smaller_class_goes_and_comes_back_in_order(rt: HostRuntime) -> Result<(), Fail> {
     let mut forest = ClassForest::new(rt.alloc(), 8)?;
@@ -66,6 +81,22 @@ fn the_smaller_class_goes_and_comes_back_in_order(rt: HostRuntime) -> Result<(),
 }
 
 #[test]
+fn a_path_marks_the_merges_on_it(rt: HostRuntime) -> Result<(), Fail> {
+    let mut forest = ClassForest::new(rt.alloc(), 8)?;
+    join(&rt, &mut forest, 0, 1);
+    join(&rt, &mut forest, 2, 3);
+    join(&rt, &mut forest, 1, 3);
+    join(&rt, &mut forest, 4, 5);
+    join(&rt, &mut forest, 5, 0);
+    assert_path(&rt, &mut forest, 0, 1, &[0]);
+    assert_path(&rt, &mut forest, 3, 1, &[2]);
+    assert_path(&rt, &mut forest, 4, 0, &[3, 4]);
+    assert_path(&rt, &mut forest, 4, 2, &[0, 1, 2, 3, 4]);
+    assert_path(&rt, &mut forest, 6, 6, &[]);
+    Ok(())
+}
+
+#[test]
 fn a_chain_is_joined_from_both_ends_and_undone(rt: HostRuntime) -> Result<(), Fail> {
     let mut forest = ClassForest::new(rt.alloc(), 1000)?;
     for step in 0..499 {
@@ -74,8 +105,10 @@ fn a_chain_is_joined_from_both_ends_and_undone(rt: HostRuntime) -> Result<(), Fa
     }
     join(&rt, &mut forest, 499, 500);
     assert_eq!(rt; forest.merges(), 999);
-    assert_eq!(rt; forest.class(0), forest.class(999));
-    assert_eq!(rt; forest.size(forest.class(0)), 1000);
+    for node in 0..499 {
+        assert_path(&rt, &mut forest, node, node + 1, &[2 * node]);
+        assert_path(&rt, &mut forest, 999 - node, 998 - node, &[2 * node + 1]);
+    }
     for _ in 0..999 {
         part(&rt, &mut forest);
     }

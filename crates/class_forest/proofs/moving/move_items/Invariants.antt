@@ -4,9 +4,9 @@ use Rattle.class_forest.proofs.moving.move_items.Given as goal
 
 abbrev pub invariant-loop : goal.invariant-loop
 invariant-loop l = record {
-    list_count : length l.lists ≡ length l.initial.lists;
-    item_count : item_count l.lists ≡ item_count l.initial.lists;
-    source : items_of l.lists l.from ≡ drop l.counter (items_of l.initial.lists l.from);
-    target : items_of l.lists l.to ≡ reverse (take l.counter (items_of l.initial.lists l.from)) ++ items_of l.initial.lists l.to;
-    others : (list : ℕ) → list ≢ l.from → list ≢ l.to → items_of l.lists list ≡ items_of l.initial.lists list
-  }
+  list_count : length l.lists ≡ length l.initial.lists;
+  item_count : item_count l.lists ≡ item_count l.initial.lists;
+  source : items_of l.lists l.from ≡ drop l.counter (items_of l.initial.lists l.from);
+  target : items_of l.lists l.to ≡ reverse (take l.counter (items_of l.initial.lists l.from)) ++ items_of l.initial.lists l.to;
+  others : (list : ℕ) → list ≢ l.from → list ≢ l.to → items_of l.lists list ≡ items_of l.initial.lists list;
+}

@@ -1,9 +1,8 @@
-use Rattle.std.proofs.Common.{◌≡◌, ℕ, ◌-◌, ◌<◌, ◌≤◌, suc, Some, length, refl, sym, ap, ◌∙◌, subst, arith}
+use Rattle.std.proofs.Common.{◌≡◌, ◌-◌, ◌<◌, suc, Some, refl, sym, ap, ◌∙◌, subst, arith}
 use Rattle.std.specs.Prelude.{slice_get}
-use Rattle.class_forest.specs.Classes.{class_of}
 use Rattle.class_forest.specs.Joined.{IsLinked}
 use Rattle.class_forest.specs.Joined.IsLinked.{equal, along}
-use Rattle.class_forest.specs.Path.{joined_at, split_of}
+use Rattle.class_forest.specs.Path.{joined_at}
 use Rattle.class_forest.proofs.Marking.{GrowsBelow-none}
 use Rattle.class_forest.proofs.Turns.{joined_within, left_within, Halved-of, Marking-turn}
 use Rattle.class_forest.proofs.Walks.{apart_before, joined_at-length}

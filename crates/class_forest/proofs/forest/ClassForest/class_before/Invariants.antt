@@ -5,10 +5,10 @@ use Rattle.class_forest.proofs.forest.ClassForest.class_before.Given as goal
 
 abbrev pub invariant-loop-end : goal.invariant-loop-end
 invariant-loop-end l = record {
-    class_in : l.class < l.self.nodes;
-    end : l.end ≡ end_of l.self.log l.class;
-    same : class_of (take l.number l.self.log) l.class ≡ class_of (take l.number l.self.log) l.node
-  }
+  class_in : l.class < l.self.nodes;
+  end : l.end ≡ end_of l.self.log l.class;
+  same : class_of (take l.number l.self.log) l.class ≡ class_of (take l.number l.self.log) l.node;
+}
 
 abbrev pub decreases-loop-end : goal.decreases-loop-end
 decreases-loop-end l = l.number - l.end

@@ -1,4 +1,4 @@
-use Rattle.std.proofs.Common.{◌≡◌, ◌<◌, ◌^◌, arith}
+use Rattle.std.proofs.Common.{arith}
 use Rattle.class_forest.proofs.Keeping.{kept_size-le}
 use Rattle.class_forest.proofs.forest.ClassForest.class_sizes.Goals as goal
 

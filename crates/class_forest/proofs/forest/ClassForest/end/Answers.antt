@@ -1,4 +1,4 @@
-use Rattle.std.proofs.Common.{◌≡◌, ◌<◌, None, length, sym, ◌∙◌, arith}
+use Rattle.std.proofs.Common.{◌<◌, None, length, sym, ◌∙◌, arith}
 use Rattle.std.proofs.lemmas.List.{get_or_read}
 use Rattle.class_forest.proofs.Endings.{end_of-gone_in, end_of-still_in}
 use Rattle.class_forest.proofs.forest.ClassForest.end.Goals as goal

@@ -1,4 +1,4 @@
-use Rattle.std.proofs.Common.{◌≡◌, ℕ, length, sym, ◌∙◌, subst, arith}
+use Rattle.std.proofs.Common.{◌≡◌, length, arith}
 use Rattle.class_forest.proofs.Keeping.{size_read, IsKept-join, Sides-kept}
 use Rattle.class_forest.proofs.Rooms.{room_for_merge}
 use Rattle.class_forest.proofs.forest.ClassForest.join.Goals as goal

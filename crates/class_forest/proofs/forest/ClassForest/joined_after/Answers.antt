@@ -1,4 +1,4 @@
-use Rattle.std.proofs.Common.{◌≡◌, ◌≢◌, ◌<◌, ◌≤◌, length, sym, ◌∙◌, subst, arith}
+use Rattle.std.proofs.Common.{◌<◌, ◌≤◌, sym, ◌∙◌, subst, arith}
 use Rattle.class_forest.specs.Kept.{end_of}
 use Rattle.class_forest.specs.Path.{joined_at}
 use Rattle.class_forest.proofs.Endings.{end_of-le}

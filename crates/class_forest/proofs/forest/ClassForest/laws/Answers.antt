@@ -1,4 +1,4 @@
-use Rattle.std.proofs.Common.{◌∙◌, sym, true}
+use Rattle.std.proofs.Common.{◌∙◌, sym}
 use Rattle.std.proofs.lemmas.Bool.{eq-eqb, eqb-true}
 use Rattle.class_forest.proofs.Joining.{class_of-joined, IsJoined-same_class}
 use Rattle.class_forest.proofs.Members.{has-members}

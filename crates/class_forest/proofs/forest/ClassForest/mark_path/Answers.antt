@@ -1,5 +1,3 @@
-use Rattle.std.proofs.Common.{◌≡◌, ◌<◌, ◌≤◌, ◌^◌, length, sym, ap, subst, arith}
-use Rattle.std.proofs.lemmas.List.{take_all}
 use Rattle.class_forest.proofs.Turns.{IsWithin-whole}
 use Rattle.class_forest.proofs.Marking.{GrowsBelow-wider}
 use Rattle.class_forest.proofs.Walks.{joined_at-least}

@@ -1,7 +1,6 @@
 use Rattle.std.proofs.Common.{◌∙◌, ap}
 use Rattle.std.specs.Prelude.{slice_get}
 use Rattle.index_lists.specs.Lists.{behind, items_of}
-use Rattle.class_forest.specs.Classes.{members}
 use Rattle.class_forest.proofs.Keeping.{list_of-kept}
 use Rattle.class_forest.proofs.Members.{class_of-within}
 use Rattle.class_forest.proofs.forest.ClassForest.next.Goals as goal

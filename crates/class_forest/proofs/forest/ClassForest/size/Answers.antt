@@ -1,4 +1,4 @@
-use Rattle.std.proofs.Common.{◌≡◌, ◌<◌, None, length, sym, ◌∙◌, arith}
+use Rattle.std.proofs.Common.{◌<◌, None, length, sym, ◌∙◌, arith}
 use Rattle.std.proofs.lemmas.List.{get_or_read}
 use Rattle.class_forest.proofs.Endings.{class_of-gone_in, members-gone_in}
 use Rattle.class_forest.proofs.Members.{length-members}

@@ -1,4 +1,4 @@
-use Rattle.std.proofs.Common.{◌≡◌, sym, ◌∙◌, subst, arith, length-append}
+use Rattle.std.proofs.Common.{sym, subst, arith}
 use Rattle.class_forest.specs.Kept.{IsKept}
 use Rattle.std.specs.Prelude.{vec_len}
 use Rattle.class_forest.proofs.Keeping.{size_read, IsKept-undo, LastSides-kept}

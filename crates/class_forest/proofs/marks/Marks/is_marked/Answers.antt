@@ -1,4 +1,4 @@
-use Rattle.std.proofs.Common.{◌≡◌, ◌<◌, false, length, sym, ◌∙◌, arith}
+use Rattle.std.proofs.Common.{◌<◌, false, length, sym, ◌∙◌, arith}
 use Rattle.std.proofs.lemmas.List.{get_or_read}
 use Rattle.class_forest.proofs.Marking.{is_mark-Contains, Contains-is_mark}
 use Rattle.class_forest.proofs.marks.Marks.is_marked.Goals as goal
