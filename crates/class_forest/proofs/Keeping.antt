@@ -1,7 +1,8 @@
-use Rattle.std.proofs.Common.{◌≡◌, ◌≢◌, ℕ, ◌+◌, ◌-◌, ◌<◌, ◌≤◌, suc, zero, true, false, cond, eqb, inl, inr, List, Option, None, Some, [], ◌∷◌, ◌++◌, length, get_or, set, take, drop, reverse, refl, sym, ap, ◌∙◌, arith, length-append}
+use Rattle.std.proofs.Common.{replicate, ◌≡◌, ◌≢◌, ℕ, ◌+◌, ◌-◌, ◌<◌, ◌≤◌, suc, zero, true, false, cond, eqb, inl, inr, List, Option, None, Some, [], ◌∷◌, ◌++◌, length, get_or, set, take, drop, reverse, refl, sym, ap, ◌∙◌, arith, length-append}
 use Rattle.std.proofs.lemmas.Bool.{cases_eq, eq-eqb, ne_eqb, false≢true}
-use Rattle.std.proofs.lemmas.List.{append-nil, drop_all, drop_at, get_or-set_other, get_or-set_same, get_or_read, length-reverse, length-set, reverse-reverse, take_all, take_at}
-use Rattle.index_lists.specs.Lists.{has, item_count, items_of, list_of}
+use Rattle.std.proofs.lemmas.List.{append-nil, drop_all, drop_at, get_or-replicate, get_or-set_other, get_or-set_same, get_or_read, length-replicate, length-reverse, length-set, reverse-reverse, take_all, take_at}
+use Rattle.std.proofs.lemmas.List.FromFn.{get_or-map-range_with_len}
+use Rattle.index_lists.specs.Lists.{each_alone, has, item_count, items_of, list_of}
 use Rattle.class_forest.specs.declared.merge.Merge.{Merge}
 use Rattle.class_forest.specs.Classes.{class_of, members, IsLog, IsMerge}
 use Rattle.class_forest.specs.Kept.{kept_size, IsKept}
@@ -175,3 +176,16 @@ kept_size-le nodes log lists sizes gone node kept within =
     let part = sum_by_more_le length lists class [] (rw kept.list_count class_in) in
     let all = kept.item_count in
     omega arith
+
+-- what is kept at the start
+pub IsKept-start : (nodes : ℕ) (log : List Merge) (lists : List (List ℕ)) (sizes : List ℕ) (gone : List (Option ℕ)) → log ≡ [] → lists ≡ each_alone nodes → length lists ≡ nodes → item_count lists ≡ nodes → sizes ≡ replicate nodes 1 → gone ≡ replicate nodes None → IsKept nodes log lists sizes gone
+IsKept-start nodes log lists sizes gone log_is lists_is list_count all sizes_is gone_is = record {
+  valid = rw log_is tt;
+  list_count = list_count;
+  item_count = all;
+  size_count = rw sizes_is (length-replicate nodes 1);
+  gone_count = rw gone_is (length-replicate nodes None);
+  members_at = λ class within. rw (log_is, lists_is) (get_or-map-range_with_len (λ item. item ∷ []) 0 nodes class class [] within (omega arith));
+  size_at = λ class within. rw (log_is, sizes_is) (get_or-replicate nodes class 1 0 within);
+  gone_at = λ class within. rw (log_is, gone_is) (get_or-replicate nodes class None None within);
+}
