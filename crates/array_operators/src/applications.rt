@@ -2,7 +2,7 @@
 
 ghost use Rattle.std.specs.Prelude.{◌≡◌, ◌==◌, length, Some, IfOk};
 ghost use Rattle.smtlib_terms.specs.Applying.{application, function_applied, have_sorts, terms_of};
-ghost use Rattle.smtlib_terms.specs.Names.{plain_sort};
+ghost use Rattle.mbqi_terms.specs.Sort.{plain_sort};
 ghost use Rattle.operator_arguments.specs.Measured.{Means, meaning_of, meanings_of};
 
 use crate::arrays::term_meant;

@@ -3,7 +3,7 @@
 ghost use Rattle.std.specs.Prelude.{◌≡◌, ◌++◌, [], ◌∷◌, IfOk, Ok};
 ghost use Rattle.std.specs.List.{list_any};
 ghost use Rattle.smtlib_terms.specs.Answers.{Answers};
-ghost use Rattle.smtlib_terms.specs.Meaning.{is_quantified};
+ghost use Rattle.mbqi_terms.specs.Binders.{is_quantified};
 ghost use Rattle.smtlib_terms.specs.Operators.{choice, connective, exclusion, exclusion_of, implication, implication_of, is_other_choice, joined, negated, unlike};
 ghost use Rattle.operator_arguments.specs.Measured.{meaning_of, meanings_of};
 ghost use Rattle.formula_operators.specs.Steps.{chosen_of};

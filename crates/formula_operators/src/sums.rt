@@ -3,10 +3,11 @@
 
 ghost use Rattle.std.specs.Prelude.{◌≡◌, ◌∷◌, ◌+ℤ◌, ◌-ℤ◌, ◌-◌, ◌^◌, pos, map, IfOk, OnOk};
 ghost use Rattle.smtlib_terms.specs.Answers.{Answers};
-ghost use Rattle.smtlib_terms.specs.Number.{bases_of, difference, is_within, less, negation, plus_number, sum_of, summed, summed_beside, total_of};
+ghost use Rattle.smtlib_terms.specs.Number.{bases_of, difference, less, negation, plus_number, sum_of, summed, summed_beside, total_of};
 ghost use Rattle.smtlib_terms.specs.Operators.{addition, moved_by, subtracted, subtraction};
 ghost use Rattle.operator_arguments.specs.Measured.{Means, meaning_of, meanings_of, side_of};
 ghost use Rattle.formula_operators.specs.Steps.{bases_with, is_difference, number_of};
+ghost use Rattle.mbqi_terms.specs.Limits.{is_within};
 
 use mbqi_terms::{Sort, Term};
 use mbqi_values::{FaultKind, ReadError, Sequence};

@@ -15,7 +15,8 @@ use Rattle.function_model.specs.declared.model.Row.{Row}
 use Rattle.function_model.specs.declared.model.Table.{Table}
 use Rattle.function_model.specs.declared.model.TableName.{TableName}
 use Rattle.function_model.specs.declared.model.TableName.TheVariants.{Declared, Seed, Far}
-use Rattle.function_model.specs.Holds.{IsOf, plain_sort}
+use Rattle.function_model.specs.Holds.{IsOf}
+use Rattle.mbqi_terms.specs.Sort.{plain_sort}
 
 -- A number is absolutely below 2 ^ 124; other values are as small as their sort.
 abbrev pub IsSmall : Value → Type 0

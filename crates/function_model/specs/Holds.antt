@@ -1,6 +1,6 @@
 use Rattle.std.specs.Prelude.{◌≡◌, ℕ, ◌<◌, ◌==◌, Bool, true, false, not, List, [], ◌∷◌, ◌⊎◌, ⊤, Option, None, Some, if◌then◌else◌, slice_get, slice_index}
 use Rattle.std.specs.Ordering.{is_le}
-use Rattle.mbqi_values.specs.Value.{rank_of}
+use Rattle.mbqi_values.specs.Value.{rank_of, is_same}
 use Rattle.mbqi_values.specs.declared.value.Value.{Value}
 use Rattle.mbqi_values.specs.declared.value.Value.TheVariants.{Num, Elem, Truth}
 use Rattle.mbqi_terms.specs.declared.formula.Formula.{Formula, Row_of-Formula, end_of-Formula, more_of-Formula}
@@ -18,8 +18,7 @@ use Rattle.mbqi_terms.specs.declared.term.ArrayTerm.{ArrayTerm}
 use Rattle.mbqi_terms.specs.declared.term.ArrayTerm.TheFolds.{fold-ArrayTerm}
 use Rattle.mbqi_terms.specs.declared.term.ArrayTerm.TheOpen.{ArrayTerm-F}
 use Rattle.function_model.specs.declared.model.FunctionModel.{FunctionModel}
-use Rattle.function_model.specs.Lookup.{is_same}
-use Rattle.function_model.specs.TruthOf.{Meanings}
+use Rattle.mbqi_terms.specs.Meanings.{Meanings}
 use Rattle.function_model.specs.ValueOf.{Point, value_of, array_of}
 
 -- The value has the sort in a universe of these sizes; all integers have the sort Int.
@@ -48,12 +47,6 @@ ForAll sizes (b ∷ bs) p body = (v : Value) → IsOf sizes b.sort v → ForAll 
 abbrev pub ForSome : List ℕ → List Binder → Point → (Point → Type 0) → Type 0
 ForSome sizes [] p body = body p
 ForSome sizes (b ∷ bs) p body = (v : Value) × IsOf sizes b.sort v × ForSome sizes bs (with_value p b.place v) body
-
--- An index or an element sort as a sort.
-abbrev pub plain_sort : Plain → Sort
-plain_sort plain.Truth = sort.Truth
-plain_sort plain.Int = sort.Int
-plain_sort (plain.Elem s) = sort.Elem s
 
 -- The sort of an array's index: that of a declared array, of the array that is stored into or mapped, or of the sort
 -- that a constant array names.

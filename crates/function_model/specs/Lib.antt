@@ -3,5 +3,4 @@ pub mod Holds
 pub mod Lookup
 pub mod Rising
 pub mod Shown
-pub mod TruthOf
 pub mod ValueOf

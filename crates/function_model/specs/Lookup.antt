@@ -1,18 +1,14 @@
 use Rattle.std.specs.Prelude.{ℕ, ◌==◌, Bool, true, false, ◌&&◌, List, [], ◌∷◌, Option, None, Some, if◌then◌else◌}
 use Rattle.std.specs.List.{list_any, find}
-use Rattle.std.specs.Ordering.{is_eq, is_le}
+use Rattle.std.specs.Ordering.{is_le}
 use Rattle.mbqi_values.specs.declared.value.Value.{Value}
 use Rattle.mbqi_values.specs.declared.value.Value.TheVariants.{Num, Elem, Truth}
-use Rattle.mbqi_values.specs.Value.{rank_of}
+use Rattle.mbqi_values.specs.Value.{is_same, rank_of}
 use Rattle.function_model.specs.declared.model.FunctionModel.{FunctionModel}
 use Rattle.function_model.specs.declared.model.Row.{Row}
 use Rattle.function_model.specs.declared.model.Table.{Table}
 use Rattle.function_model.specs.declared.model.TableName.{TableName}
 use Rattle.function_model.specs.declared.model.TableName.TheVariants.{Declared, Skolem, Seed, Far}
-
--- Whether two values are one.
-abbrev pub is_same : Value → Value → Bool
-is_same v w = is_eq (rank_of v w)
 
 -- The greatest of rising knots that isn't above the value, or `best` where there is none.
 abbrev pub greatest_up_to : Value → List Value → Value → Value

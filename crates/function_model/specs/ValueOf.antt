@@ -1,6 +1,7 @@
 use Rattle.std.specs.Prelude.{ℕ, ℤ, pos, ◌+ℤ◌, Bool, false, not, List, [], ◌∷◌, map, Option, None, Some, if◌then◌else◌}
 use Rattle.std.specs.List.{list_all, list_any, fold}
 use Rattle.std.specs.Ordering.{is_le, int_cmp}
+use Rattle.mbqi_values.specs.Value.{is_same, is_true, plus_number}
 use Rattle.mbqi_values.specs.declared.value.Value.{Value}
 use Rattle.mbqi_values.specs.declared.value.Value.TheVariants.{Num, Elem, Truth}
 use Rattle.mbqi_terms.specs.declared.term.ArrayTerm.{ArrayTerm}
@@ -11,7 +12,7 @@ use Rattle.mbqi_terms.specs.declared.term.MapOp.TheVariants as op
 use Rattle.mbqi_terms.specs.declared.term.Term.{Term}
 use Rattle.function_model.specs.declared.model.FunctionModel.{FunctionModel}
 use Rattle.function_model.specs.declared.model.Table.{Table}
-use Rattle.function_model.specs.Lookup.{is_same, looked_up, table_where, is_declared, is_skolem, is_seed, is_far}
+use Rattle.function_model.specs.Lookup.{looked_up, table_where, is_declared, is_skolem, is_seed, is_far}
 
 -- The values of variables, by place.
 abbrev pub Point : Type 0
@@ -21,16 +22,6 @@ Point = ℕ → Value
 pub record ArrayMeaning : Type 0 where
   pub read : Value → Value
   pub top : ℤ
-
-abbrev pub is_true : Value → Bool
-is_true (Truth t) = t
-is_true (Num n) = false
-is_true (Elem e) = false
-
-abbrev pub plus_number : Value → ℤ → Value
-plus_number (Num a) n = Num (a +ℤ n)
-plus_number (Elem e) n = Elem e
-plus_number (Truth t) n = Truth t
 
 abbrev pub number_of : Value → ℤ
 number_of (Num n) = n

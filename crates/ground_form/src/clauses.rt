@@ -2,8 +2,8 @@
 
 ghost use Rattle.std.specs.Prelude.{◌≡◌, length, slice_get, Some, All, IfOk};
 ghost use Rattle.std.specs.List.{AllZip, list_all};
-ghost use Rattle.clause_search.specs.Clauses.{all_true, AreBelow};
-ghost use Rattle.function_model.specs.TruthOf.{Meanings, truth_of};
+ghost use Rattle.mbqi_values.specs.Clauses.{all_true, AreBelow};
+ghost use Rattle.mbqi_terms.specs.Meanings.{Meanings, truth_of};
 ghost use Rattle.mbqi_terms.specs.declared.term.Symbol.TheVariants as symbol;
 ghost use Rattle.mbqi_terms.specs.declared.term.Term.TheVariants as term;
 ghost use Rattle.ground_form.specs.Atoms.{truths_by, formulas_in, IsOver, IsPool};

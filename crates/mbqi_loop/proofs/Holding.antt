@@ -19,11 +19,12 @@ use Rattle.mbqi_terms.specs.declared.sort.Binder.{Binder}
 use Rattle.mbqi_terms.specs.declared.term.Term.{Term}
 use Rattle.function_model.specs.Fits.{Fits}
 use Rattle.function_model.specs.Holds.{ForAll, HoldsAt, SomeHolds}
-use Rattle.function_model.specs.TruthOf.{Meanings, truth_layer, truth_of}
-use Rattle.function_model.specs.ValueOf.{Point, value_of, is_true}
+use Rattle.mbqi_terms.specs.Meanings.{Meanings, truth_layer, truth_of}
+use Rattle.function_model.specs.ValueOf.{Point, value_of}
 use Rattle.function_model.specs.declared.model.FunctionModel.{FunctionModel}
 use Rattle.ground_form.specs.Profile.{IsLiteral, IsClause}
 use Rattle.mbqi_loop.proofs.Atoms.{IsTruth, atom_value}
+use Rattle.mbqi_values.specs.Value.{is_true}
 
 -- the values of terms in a model at a point; no array equality is read
 abbrev pub values_at : FunctionModel → Point → Meanings

@@ -14,14 +14,15 @@ use Rattle.mbqi_terms.specs.declared.term.Term.{Term}
 use Rattle.mbqi_terms.specs.declared.term.Term.TheVariants as term
 use Rattle.function_model.specs.Holds.{nowhere, values_in}
 use Rattle.function_model.specs.Lookup.{is_declared, looked_up, table_where}
-use Rattle.function_model.specs.TruthOf.{truth_of}
-use Rattle.function_model.specs.ValueOf.{Point, is_true, value_of}
+use Rattle.mbqi_terms.specs.Meanings.{truth_of}
+use Rattle.function_model.specs.ValueOf.{Point, value_of}
 use Rattle.function_model.specs.declared.model.FunctionModel.{FunctionModel}
 use Rattle.ground_form.specs.Profile.{IsArgument, IsAtom, IsClause, IsLiteral}
-use Rattle.rule_form.specs.Substitution.{put_into, put_into_formula}
+use Rattle.mbqi_values.specs.Value.{is_true}
 use Rattle.rule_form.proofs.Putting.{put_any, put_apply, put_atom, put_constant, put_not, put_variable}
 use Rattle.mbqi_loop.proofs.Atoms.{value_apply}
 use Rattle.mbqi_loop.proofs.Holding.{truth_any, truth_atom, truth_not, values_at}
+use Rattle.mbqi_terms.specs.Substitution.{put_into, put_into_formula}
 
 -- arguments are replaced, and the rest of a clause is as before
 pub record Replaces (put : Term → Term) (put_formula : Formula → Formula) : Type 0 where

@@ -6,7 +6,7 @@ ghost use Rattle.mbqi_terms.specs.declared.instance.InstanceLine.{InstanceLine};
 ghost use Rattle.function_model.specs.Fits.{Fits};
 ghost use Rattle.function_model.specs.Holds.{Holds};
 ghost use Rattle.function_model.specs.Shown.{shown_of};
-ghost use Rattle.function_model.specs.TruthOf.{Meanings, truth_of};
+ghost use Rattle.mbqi_terms.specs.Meanings.{Meanings, truth_of};
 ghost use Rattle.element_models.specs.Elements.{NoRowsWithoutArguments};
 ghost use Rattle.ground_form.specs.Atoms.{IsPool, formulas_in};
 ghost use Rattle.ground_form.specs.Profile.{IsElementary};

@@ -28,7 +28,7 @@ use Rattle.smtlib_printer.specs.Names.{marks_of}
 use Rattle.smtlib_terms.specs.declared.meaning.Meaning.TheVariants as meaning
 use Rattle.smtlib_terms.specs.declared.word.Word.TheVariants as word
 use Rattle.smtlib_terms.specs.declared.meaning.Side.{Side}
-use Rattle.smtlib_terms.specs.Meaning.{depth_of_formula}
+use Rattle.mbqi_terms.specs.Depth.{depth_of_formula}
 use Rattle.smtlib_terms.specs.Declaring.{formula_read, sort_read}
 use Rattle.smtlib_terms.specs.Names.{◌>>=◌}
 use Rattle.smtlib_terms.specs.Operators.{meant, plainly}

@@ -10,7 +10,7 @@ use Rattle.mbqi_terms.specs.declared.sort.Sort.{Sort}
 use Rattle.mbqi_terms.specs.declared.sort.Sort.TheVariants as sort
 use Rattle.smtlib_decls.specs.Commands.{sorts_read}
 use Rattle.smtlib_terms.specs.Declaring.{Declarations, declarable, function_declared, is_first_order, is_function, is_supported, sort_declared, sort_read, with_function, with_sort}
-use Rattle.smtlib_terms.specs.Names.{◌>>=◌, is_array, sort_meant}
+use Rattle.smtlib_terms.specs.Names.{◌>>=◌, sort_meant}
 use Rattle.smtlib_terms.specs.Words.{is_one_of, is_reserved, is_text}
 use Rattle.smtlib_terms.proofs.SortTrees.{sort_meant-Symbol}
 use Rattle.smtlib_terms.proofs.Texts.{other_text}
@@ -20,6 +20,7 @@ use Rattle.printed_trees.specs.Scripts.{IsRanked, IsResultSort}
 use Rattle.printed_trees.specs.Trees.{sort_tree}
 use Rattle.printed_trees.proofs.Lists.{distinct_head, distinct_tail}
 use Rattle.printed_trees.proofs.ReadSorts.{array_sort_means, variable_sort_means}
+use Rattle.mbqi_terms.specs.Sort.{is_array}
 
 -- the element in the middle of a list
 pub get_middle : {X : Type 0} (xs : List X) (x : X) (ys : List X) → slice_get (xs ++ x ∷ ys) (length xs) ≡ Some x

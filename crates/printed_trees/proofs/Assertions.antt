@@ -15,7 +15,7 @@ use Rattle.smtlib_printer.proofs.Longest.{marks_free, some_marks}
 use Rattle.smtlib_terms.specs.declared.meaning.Meaning.TheVariants as meaning
 use Rattle.smtlib_terms.specs.declared.meaning.Side.{Side}
 use Rattle.smtlib_terms.specs.Declaring.{formula_read}
-use Rattle.smtlib_terms.specs.Meaning.{depth_of_formula}
+use Rattle.mbqi_terms.specs.Depth.{depth_of_formula}
 use Rattle.smtlib_terms.specs.Names.{◌>>=◌}
 use Rattle.smtlib_terms.specs.Operators.{as_formula, plainly}
 use Rattle.printed_trees.specs.InForm.{IsFormula}

@@ -20,7 +20,7 @@ use Rattle.sexpr_text.specs.declared.tree.Sexpr.TheVariants as tree
 use Rattle.sexpr_text.proofs.Legality.{all_more, legal-Numeral, legal-Symbol, symbol_is_quoted}
 use Rattle.sexpr_text.proofs.ReadBack.{legal-List}
 use Rattle.smtlib_printer.specs.Names.{name_in, variable_text}
-use Rattle.smtlib_terms.specs.Number.{is_within}
+use Rattle.mbqi_terms.specs.Limits.{is_within}
 use Rattle.printed_trees.specs.InForm.{AreArrays, AreBound, AreFormulas, ArePlaced, HasSort, HaveSorts, IsArray, IsDeclared, IsElement, IsFormula, IsIndexSort, IsPlainSort, IsPointwise, IsVariableSort}
 use Rattle.printed_trees.specs.Names.{AreSmall, AreToldApart}
 use Rattle.printed_trees.specs.Trees.{applied_tree, array_tree, binder_tree, binders_tree, formula_tree, function_name_tree, map_tree, number_tree, plain_tree, sort_name_tree, sort_tree, term_tree, truth_tree, variable_tree, word_tree}

@@ -19,13 +19,15 @@ use denote.Hole.Carrier.{hidden}
 use Rattle.smtlib_terms.specs.declared.meaning.Meaning.{Meaning}
 use Rattle.smtlib_terms.specs.declared.meaning.Meaning.TheVariants as meaning
 use Rattle.smtlib_terms.specs.Applying.{are_over, arrays_of, have_sorts, terms_of}
-use Rattle.smtlib_terms.specs.Meaning.{varies}
-use Rattle.smtlib_terms.specs.Names.{◌>>=◌, plain_sort}
-use Rattle.smtlib_terms.specs.Number.{Sum, is_within, plus_number, sum_of, sum_of_terms, summed}
+use Rattle.mbqi_terms.specs.Varies.{varies}
+use Rattle.smtlib_terms.specs.Names.{◌>>=◌}
+use Rattle.smtlib_terms.specs.Number.{Sum, plus_number, sum_of, sum_of_terms, summed}
 use Rattle.smtlib_terms.specs.Operators.{addition, as_plain, constant, defaulting, integer_meant, selection, storing, term_meant, unbound}
 use Rattle.printed_trees.specs.InForm.{AreArrays, HasSort, HaveSorts, IsElement, IsIndexSort}
 use Rattle.printed_trees.proofs.Depths.{meant_sort}
 use Rattle.printed_trees.proofs.ReadNames.{own_plain, own_sort}
+use Rattle.mbqi_terms.specs.Sort.{plain_sort}
+use Rattle.mbqi_terms.specs.Limits.{is_within}
 
 -- the arguments of a function
 abbrev pub meanings_of : List Term → List Plain → List Meaning

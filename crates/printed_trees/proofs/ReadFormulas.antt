@@ -15,7 +15,7 @@ use Rattle.mbqi_terms.specs.declared.term.Term.{Term}
 use Rattle.smtlib_terms.specs.declared.meaning.Meaning.{Meaning}
 use Rattle.smtlib_terms.specs.declared.meaning.Meaning.TheVariants as meaning
 use Rattle.smtlib_terms.specs.declared.word.Word.TheVariants as word
-use Rattle.smtlib_terms.specs.Meaning.{deepest, depth_of_formula, variables_in}
+use Rattle.mbqi_terms.specs.Depth.{deepest, depth_of_formula}
 use Rattle.smtlib_terms.specs.Names.{◌>>=◌}
 use Rattle.smtlib_terms.specs.Operators.{applied, as_formulas, connective, formula_meant, joined, meant, term_meant}
 use Rattle.smtlib_terms.specs.Reading.{part_of, parts_read}
@@ -32,6 +32,7 @@ use Rattle.printed_trees.proofs.ReadTerms.{Reads, array_means, at_tree, term_mea
 use Rattle.printed_trees.proofs.Scopes.{bound_small}
 use Rattle.printed_trees.proofs.TreeLaws as tree_law
 use Rattle.printed_trees.proofs.Words.{and_word, at_most_word, equal_word, exists_word, forall_word, ite_word, not_word, or_word}
+use Rattle.mbqi_terms.specs.Binders.{variables_in}
 
 -- what the operators make of their arguments
 equal_ok : (script : Script) (e : Plain) (s t : Term) → IsIndexSort script e → applied word.Equal (term_meant e s ∷ term_meant e t ∷ []) ≡ Ok (meaning.Formula (formula.Equal s t))

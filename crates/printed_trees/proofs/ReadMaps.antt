@@ -21,8 +21,8 @@ use Rattle.smtlib_printer.specs.Names.{name_in}
 use Rattle.smtlib_terms.specs.declared.meaning.Meaning.{Meaning}
 use Rattle.smtlib_terms.specs.declared.meaning.Meaning.TheVariants as meaning
 use Rattle.smtlib_terms.specs.Applying.{Pointwise, are_over, arrays_of, bound_pointwise, function_pointwise, mapped, mapped_over, plain_of, pointwise_named}
-use Rattle.smtlib_terms.specs.Meaning.{varies}
-use Rattle.smtlib_terms.specs.Names.{◌>>=◌, plain_sort}
+use Rattle.mbqi_terms.specs.Varies.{varies}
+use Rattle.smtlib_terms.specs.Names.{◌>>=◌}
 use Rattle.smtlib_terms.specs.Operators.{unbound}
 use Rattle.smtlib_terms.specs.Reading.{Mapped, head_of, mapped_head}
 use Rattle.smtlib_terms.specs.Words.{is_reserved_word}
@@ -33,6 +33,7 @@ use Rattle.printed_trees.proofs.Meanings.{arrays_count, arrays_meant, arrays_ove
 use Rattle.printed_trees.proofs.ReadParts.{list_is_head}
 use Rattle.printed_trees.proofs.Scopes.{function_found}
 use Rattle.printed_trees.proofs.Words.{no_word}
+use Rattle.mbqi_terms.specs.Sort.{plain_sort}
 
 and_reserved : is_reserved_word (codes "and") ≡ true
 unfolding is_reserved_word

@@ -17,7 +17,6 @@ use Rattle.smtlib_terms.specs.declared.meaning.Meaning.{Meaning}
 use Rattle.smtlib_terms.specs.declared.meaning.Meaning.TheVariants as meaning
 use Rattle.smtlib_terms.specs.declared.meaning.Side.TheVariants.{Meant}
 use Rattle.smtlib_terms.specs.Applying.{application, bound_applied, fitting, function_applied, have_sorts, name_applied, terms_of}
-use Rattle.smtlib_terms.specs.Names.{is_plain, is_sort, plain_sort}
 use Rattle.smtlib_terms.specs.Operators.{meant, term_meant}
 use Rattle.smtlib_terms.specs.Reading.{side, symbol}
 use Rattle.smtlib_terms.specs.Words.{is_reserved_word}
@@ -28,6 +27,7 @@ use Rattle.printed_trees.specs.Names.{AreSmall, AreToldApart, bindings_of, signa
 use Rattle.printed_trees.specs.Trees.{function_name_tree, variable_tree}
 use Rattle.printed_trees.proofs.Scopes.{function_found, variable_found}
 use Rattle.printed_trees.proofs.Words.{no_word}
+use Rattle.mbqi_terms.specs.Sort.{plain_sort, is_plain, is_sort}
 
 -- sorts are themselves
 eqb_own : (a : ℕ) → eqb a a ≡ true

@@ -14,7 +14,7 @@ use Rattle.smtlib_terms.specs.declared.meaning.Side.TheVariants.{Meant}
 use Rattle.smtlib_terms.specs.declared.names.Binding.{Binding}
 use Rattle.smtlib_terms.specs.declared.word.Word.TheVariants as word
 use Rattle.smtlib_terms.specs.Names.{◌>>=◌, Signature}
-use Rattle.smtlib_terms.specs.Number.{is_within}
+use Rattle.mbqi_terms.specs.Limits.{is_within}
 use Rattle.smtlib_terms.specs.Operators.{integer_meant, meant, subtraction}
 use Rattle.smtlib_terms.specs.Reading.{numeral}
 use Rattle.smtlib_terms.proofs.TermTrees.{side-Numeral, side-Symbol}

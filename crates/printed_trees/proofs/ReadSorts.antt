@@ -8,7 +8,7 @@ use Rattle.mbqi_terms.specs.declared.sort.Plain.{Plain}
 use Rattle.mbqi_terms.specs.declared.sort.Plain.TheVariants as plain
 use Rattle.mbqi_terms.specs.declared.sort.Sort.{Sort}
 use Rattle.mbqi_terms.specs.declared.sort.Sort.TheVariants as sort
-use Rattle.smtlib_terms.specs.Names.{◌>>=◌, array_sort, found_sort, place_of, plain_sort, sort_meant, sort_named}
+use Rattle.smtlib_terms.specs.Names.{◌>>=◌, array_sort, found_sort, place_of, sort_meant, sort_named}
 use Rattle.smtlib_terms.specs.Words.{is_reserved_word}
 use Rattle.smtlib_terms.proofs.SortTrees.{sort_meant-List, sort_meant-Symbol}
 use Rattle.printed_trees.specs.InForm.{IsIndexSort, IsPlainSort, IsVariableSort}
@@ -17,6 +17,7 @@ use Rattle.printed_trees.specs.Trees.{plain_tree, sort_name_tree, sort_tree, wor
 use Rattle.printed_trees.proofs.Lists.{place_at}
 use Rattle.printed_trees.proofs.Spelled.{index_plain, sort_is_name}
 use Rattle.printed_trees.proofs.Words.{no_reserved_word, no_word}
+use Rattle.mbqi_terms.specs.Sort.{plain_sort}
 
 bool_reserved : is_reserved_word (codes "Bool") ≡ true
 unfolding is_reserved_word

@@ -23,8 +23,8 @@ use Rattle.smtlib_terms.specs.declared.meaning.Side.TheVariants.{Meant}
 use Rattle.smtlib_terms.specs.declared.names.Binding.{Binding}
 use Rattle.smtlib_terms.specs.declared.word.Word.TheVariants as word
 use Rattle.smtlib_terms.specs.Applying.{application, fitting, mapped, name_applied, terms_of}
-use Rattle.smtlib_terms.specs.Meaning.{deepest, depth_of, depth_of_array, depth_of_term}
-use Rattle.smtlib_terms.specs.Names.{◌>>=◌, Signature, plain_sort}
+use Rattle.smtlib_terms.specs.Meaning.{depth_of}
+use Rattle.smtlib_terms.specs.Names.{◌>>=◌, Signature}
 use Rattle.smtlib_terms.specs.Operators.{applied, constant, meant, term_meant}
 use Rattle.smtlib_terms.specs.Reading.{Constant, Mapped, head_of, part_of, parts_read, side, values_read}
 use Rattle.measured_terms.proofs.ArrayLaws as array_measure
@@ -43,6 +43,8 @@ use Rattle.printed_trees.proofs.ReadSorts.{array_sort_means}
 use Rattle.printed_trees.proofs.Scopes.{function_found}
 use Rattle.printed_trees.proofs.TreeLaws as tree_law
 use Rattle.printed_trees.proofs.Words.{default_word, name_word, plus_word, select_word, store_word}
+use Rattle.mbqi_terms.specs.Depth.{deepest, depth_of_array, depth_of_term}
+use Rattle.mbqi_terms.specs.Sort.{plain_sort}
 
 -- the reading of a script's trees in a scope
 abbrev pub Reads : Script → ℕ → List Binder → ℕ → Sexpr → Meaning → Type 0

@@ -12,7 +12,7 @@ use Rattle.mbqi_terms.specs.declared.sort.Sort.TheVariants as sort
 use Rattle.mbqi_terms.specs.declared.term.Symbol.TheVariants as symbol
 use Rattle.mbqi_terms.specs.declared.term.Term.TheVariants as term
 use Rattle.sexpr_text.specs.Bytes.{is_content, is_quoted_content}
-use Rattle.smtlib_terms.specs.Meaning.{depth_of_formula}
+use Rattle.mbqi_terms.specs.Depth.{depth_of_formula}
 use Rattle.smtlib_terms.specs.Words.{is_reserved, is_reserved_word}
 use Rattle.printed_trees.specs.InForm.{HasSort, HaveSorts, IsFormula, IsVariableSort}
 use Rattle.printed_trees.specs.Names.{IsName}

@@ -16,9 +16,10 @@ use Rattle.mbqi_terms.specs.declared.term.Symbol.TheVariants as symbol
 use Rattle.mbqi_terms.specs.declared.term.Term.{Term, out-Term}
 use Rattle.mbqi_terms.specs.declared.term.Term.TheVariants as term
 use Rattle.mbqi_terms.specs.Tree.{IsBase}
-use Rattle.smtlib_terms.specs.Meaning.{variables_in, varies}
-use Rattle.smtlib_terms.specs.Names.{plain_sort}
-use Rattle.smtlib_terms.specs.Number.{is_within}
+use Rattle.mbqi_terms.specs.Binders.{variables_in}
+use Rattle.mbqi_terms.specs.Varies.{varies}
+use Rattle.mbqi_terms.specs.Sort.{plain_sort}
+use Rattle.mbqi_terms.specs.Limits.{is_within}
 
 -- Which terms and formulas of a script are in form (this project's own profile of SMT-LIB 2.6, section 3.6): each sort, function
 -- and variable that they name is there, arguments have their number and sorts, and numbers are within their limits.

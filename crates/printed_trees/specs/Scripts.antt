@@ -6,8 +6,8 @@ use Rattle.mbqi_terms.specs.declared.script.Script.{Script}
 use Rattle.mbqi_terms.specs.declared.sort.Sort.{Sort}
 use Rattle.mbqi_terms.specs.declared.sort.Sort.TheVariants as sort
 use Rattle.sexpr_text.specs.Bytes.{is_quoted_content}
-use Rattle.smtlib_terms.specs.Meaning.{depth_of_formula}
-use Rattle.smtlib_terms.specs.Names.{is_array}
+use Rattle.mbqi_terms.specs.Depth.{depth_of_formula}
+use Rattle.mbqi_terms.specs.Sort.{is_array}
 use Rattle.printed_trees.specs.InForm.{IsFormula, IsIndexSort, IsPlainSort, IsVariableSort}
 use Rattle.printed_trees.specs.Names.{AreNamed}
 

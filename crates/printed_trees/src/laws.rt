@@ -20,7 +20,7 @@ ghost use Rattle.sexpr_text.specs.declared.tree.Form.{Form};
 ghost use Rattle.smtlib_printer.specs.Names.{marks_of};
 ghost use Rattle.smtlib_printer.specs.Text.{array_text_with, formula_text, term_text_with};
 ghost use Rattle.smtlib_terms.specs.Declaring.{formula_read};
-ghost use Rattle.smtlib_terms.specs.Meaning.{depth_of_array, depth_of_formula, depth_of_term};
+ghost use Rattle.mbqi_terms.specs.Depth.{depth_of_array, depth_of_formula, depth_of_term};
 ghost use Rattle.smtlib_terms.specs.Operators.{term_meant};
 ghost use Rattle.smtlib_terms.specs.declared.meaning.Meaning.TheVariants as meaning;
 

@@ -25,10 +25,11 @@ use Rattle.mbqi_terms.specs.declared.term.Term.{Term, out-Term}
 use Rattle.mbqi_terms.specs.declared.term.Term.TheVariants as term
 use Rattle.mbqi_terms.proofs.Levels.{out-apply, out-declared, out-seed}
 use Rattle.ground_form.specs.Profile.{IsArgument, IsClause, IsGround, IsLiteral, IsRule, constant, seed, for_all, variables_from, the_sort}
-use Rattle.rule_form.specs.Instance.{Instantiation, InstanceAt, EachInstance, HasNoVariable, IsInstance, IsTermFor, below_universal, is_bound, lists_of, start, term_for, universal_layer, universals_at}
+use Rattle.rule_form.specs.Instance.{Instantiation, InstanceAt, EachInstance, HasNoVariable, IsInstance, IsTermFor, below_universal, is_bound, lists_of, start, term_for}
 use Rattle.rule_form.specs.Rules.{term_at, clause_at}
-use Rattle.rule_form.specs.Substitution.{put_into, put_into_formula}
+use Rattle.mbqi_terms.specs.Binders.{universal_layer, universals_at}
 use Rattle.rule_form.proofs.Putting.{put_atom, put_not, put_any, alike_atom}
+use Rattle.mbqi_terms.specs.Substitution.{put_into, put_into_formula}
 
 -- one instance of each of a list of formulas
 abbrev EachOf : Instantiation → List Formula → List Formula → Type 0

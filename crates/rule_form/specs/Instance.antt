@@ -17,26 +17,7 @@ use Rattle.mbqi_terms.specs.declared.term.Symbol.TheVariants as symbol
 use Rattle.mbqi_terms.specs.declared.term.Term.{Term, out-Term}
 use Rattle.mbqi_terms.specs.declared.term.Term.TheVariants as term
 use Rattle.mbqi_terms.specs.declared.term.ArrayTerm.TheOpen.{Term-F}
-use Rattle.rule_form.specs.Substitution.{put_into, put_into_array, put_into_formula}
-
--- The universal variables of a formula at a polarity, in order of the text: those of a `forall` at positive and of an `exists` at
--- negative polarity. The others are existential.
-abbrev pub universal_layer : Formula-F (Bool → List Binder) → Bool → List Binder
-universal_layer (Formula-F.Truth t) b = []
-universal_layer (Formula-F.Atom t) b = []
-universal_layer (Formula-F.Equal s t) b = []
-universal_layer (Formula-F.AtMost s t) b = []
-universal_layer (Formula-F.SameArray s t) b = []
-universal_layer (Formula-F.Not f) b = f (not b)
-universal_layer (Formula-F.All parts) b = flat_map (λ (part : Bool → List Binder). part b) parts
-universal_layer (Formula-F.Any parts) b = flat_map (λ (part : Bool → List Binder). part b) parts
-universal_layer (Formula-F.Iff f g) b = []
-universal_layer (Formula-F.Choose c f g) b = f b ++ g b
-universal_layer (Formula-F.Forall binders f) b = (if b then binders else []) ++ f b
-universal_layer (Formula-F.Exists binders f) b = (if b then [] else binders) ++ f b
-
-unfoldable pub universals_at : Formula → Bool → List Binder
-universals_at f = fold-Formula (Bool → List Binder) universal_layer f
+use Rattle.mbqi_terms.specs.Substitution.{put_into, put_into_array, put_into_formula}
 
 -- The term for the variable of a place, where the variables have these terms in order.
 abbrev pub term_for : List Binder → List Term → ℕ → Term

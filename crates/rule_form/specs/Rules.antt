@@ -11,7 +11,7 @@ use Rattle.mbqi_terms.specs.declared.script.Script.{Script}
 use Rattle.mbqi_terms.specs.declared.term.Term.{Term}
 use Rattle.mbqi_terms.specs.declared.term.Term.TheVariants as term
 use Rattle.ground_form.specs.Profile.{constants_of, seed}
-use Rattle.rule_form.specs.Substitution.{put_into_formula}
+use Rattle.mbqi_terms.specs.Substitution.{put_into_formula}
 use Rattle.rule_form.specs.declared.choice.Choice.{Choice}
 
 -- How many variables an assertion has, and its clause.

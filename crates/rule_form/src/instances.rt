@@ -5,7 +5,7 @@ ghost use Rattle.ground_form.specs.Atoms.{formulas_in};
 ghost use Rattle.ground_form.specs.Profile.{IsArgument, IsAtom, IsClause, IsElementary, IsGround, IsLiteral};
 ghost use Rattle.rule_form.specs.Instance.{IsInstance};
 ghost use Rattle.rule_form.specs.Rules.{IsChoice, clause_at, first_from, line_of, lines_of, term_at};
-ghost use Rattle.rule_form.specs.Substitution.{put_into, put_into_formula};
+ghost use Rattle.mbqi_terms.specs.Substitution.{put_into, put_into_formula};
 
 use crate::choice::Choice;
 use crate::parts::rule_parts;

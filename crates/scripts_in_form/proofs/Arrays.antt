@@ -16,14 +16,16 @@ use Rattle.mbqi_terms.specs.declared.term.Term.TheVariants as term
 use denote.Hole.Carrier.{hidden}
 use Rattle.smtlib_terms.specs.declared.meaning.Meaning.{Meaning}
 use Rattle.smtlib_terms.specs.declared.meaning.Meaning.TheVariants as meaning
-use Rattle.smtlib_terms.specs.Meaning.{variables_of, varies}
-use Rattle.smtlib_terms.specs.Names.{◌>>=◌, is_sort, plain_sort}
+use Rattle.smtlib_terms.specs.Meaning.{variables_of}
+use Rattle.smtlib_terms.specs.Names.{◌>>=◌}
 use Rattle.smtlib_terms.specs.Operators.{as_plain, constant, constant_of, default_of, defaulting, read_at, selection, stored_at, storing, term_meant, truth_value, unbound}
 use Rattle.printed_trees.specs.InForm.{HasSort, IsArray, IsElement, IsIndexSort, IsPlainSort}
 use Rattle.printed_trees.specs.Scripts.{IsResultSort}
 use Rattle.scripts_in_form.proofs.Placed.{AreMeanings, IsMeaning, IsPlaced, IsTermOf}
 use Rattle.scripts_in_form.proofs.SameSorts.{one_plain, same_sort}
 use Rattle.scripts_in_form.proofs.Steps.{not_refused, passed, same_ok, stepped}
+use Rattle.mbqi_terms.specs.Varies.{varies}
+use Rattle.mbqi_terms.specs.Sort.{plain_sort, is_sort}
 
 -- a term as what it means
 pub term_meant_is : (script : Script) (scope : List Binder) (next : ℕ) (e : Plain) (t : Term) → IsPlainSort script e → HasSort script scope t e → IsMeaning script scope next (term_meant e t)

@@ -14,7 +14,7 @@ use Rattle.smtlib_terms.specs.declared.names.Macro.{Macro}
 use Rattle.smtlib_terms.specs.declared.names.Parameter.{Parameter}
 use Rattle.smtlib_terms.specs.Declaring.{Declarations, body_defined, declarable, defined, definition_of, definition_read, formula_read, function_declared, is_function, is_supported, macro_defined, parameters_of, sort_declared, sort_read, with_definition, with_function, with_sort}
 use Rattle.smtlib_terms.specs.Meaning.{sort_of}
-use Rattle.smtlib_terms.specs.Names.{◌>>=◌, is_sort, is_symbol, sort_meant}
+use Rattle.smtlib_terms.specs.Names.{◌>>=◌, is_symbol, sort_meant}
 use Rattle.smtlib_terms.specs.Reading.{is_list, is_some_symbol, text_of, trees_in}
 use Rattle.smtlib_terms.specs.Words.{is_one_of, is_reserved}
 use Rattle.term_reader.specs.Defining.{definition_parts}
@@ -25,6 +25,7 @@ use Rattle.smtlib_decls.specs.Commands.{asserted, assertion_command, by_command,
 use Rattle.smtlib_decls.specs.Labels.{attributes_in, first_symbol, is_named, is_taken, label_at, label_of}
 use Rattle.scripts_in_form.proofs.LegalNames.{AreLegal, text_legal, trees_legal}
 use Rattle.scripts_in_form.proofs.Steps.{not_refused, passed, same_ok, stepped}
+use Rattle.mbqi_terms.specs.Sort.{is_sort}
 
 -- A text that a symbol may have.
 abbrev pub IsLegalText : List ℕ → Type 0

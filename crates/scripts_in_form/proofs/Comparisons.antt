@@ -15,8 +15,8 @@ use Rattle.mbqi_terms.specs.declared.term.ArrayTerm.{ArrayTerm}
 use Rattle.mbqi_terms.specs.declared.term.Term.{Term}
 use Rattle.smtlib_terms.specs.declared.meaning.Meaning.{Meaning}
 use Rattle.smtlib_terms.specs.declared.meaning.Meaning.TheVariants as meaning
-use Rattle.smtlib_terms.specs.Meaning.{sort_of, variables_in, variables_of}
-use Rattle.smtlib_terms.specs.Names.{◌>>=◌, is_sort, plain_sort}
+use Rattle.smtlib_terms.specs.Meaning.{sort_of, variables_of}
+use Rattle.smtlib_terms.specs.Names.{◌>>=◌}
 use Rattle.smtlib_terms.specs.Operators.{all_of, as_integer, as_integers, at_least, at_most, below, chain, chained, compared_by, equality, have_sort, inequality, is_quantified_meaning, ordered_by, pairs}
 use Rattle.measured_terms.proofs.FormulaLaws as formula_measure
 use Rattle.printed_trees.specs.InForm.{HasSort, IsArray, IsIndexSort}
@@ -25,6 +25,8 @@ use Rattle.scripts_in_form.proofs.Placed.{AreMeanings, IsArrayOf, IsMeaning, IsP
 use Rattle.scripts_in_form.proofs.SameSorts.{one_plain, same_sort}
 use Rattle.scripts_in_form.proofs.Steps.{not_refused, passed, same_ok, stepped}
 use Rattle.scripts_in_form.proofs.Sums.{AreIntegers, integers_of}
+use Rattle.mbqi_terms.specs.Binders.{variables_in}
+use Rattle.mbqi_terms.specs.Sort.{plain_sort, is_sort}
 
 -- meanings that bind no variable, all of one sort
 pub record IsQuantifierFreeMeaning (script : Script) (scope : List Binder) (next : ℕ) (s : Sort) (m : Meaning) : Type 0 where

@@ -11,12 +11,13 @@ use Rattle.mbqi_terms.specs.declared.script.Script.{Script}
 use Rattle.mbqi_terms.specs.declared.sort.Binder.{Binder}
 use Rattle.smtlib_terms.specs.declared.meaning.Meaning.{Meaning}
 use Rattle.smtlib_terms.specs.declared.meaning.Meaning.TheVariants as meaning
-use Rattle.smtlib_terms.specs.Meaning.{is_quantified, sort_of, variables_in}
+use Rattle.smtlib_terms.specs.Meaning.{sort_of}
 use Rattle.smtlib_terms.specs.Names.{◌>>=◌}
 use Rattle.smtlib_terms.specs.Operators.{as_formula, as_formulas, choice, choice_of, connective, exclusion, exclusion_of, implication, implication_of, implied_by, is_other_choice, joined, negated, negated_first, unlike}
 use Rattle.measured_terms.proofs.FormulaLaws as formula_measure
 use Rattle.scripts_in_form.proofs.Placed.{AreAllPlaced, AreMeanings, IsPlaced}
 use Rattle.scripts_in_form.proofs.Steps.{not_refused, passed, stepped}
+use Rattle.mbqi_terms.specs.Binders.{is_quantified, variables_in}
 
 -- formulas among the meanings
 abbrev more_read : List Meaning → Formula → Result (List Formula) FaultKind

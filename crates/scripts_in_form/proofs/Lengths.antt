@@ -9,7 +9,7 @@ use Rattle.mbqi_terms.specs.declared.sort.Binder.{Binder}
 use Rattle.script_text.specs.Text.{assertion_line, function_line, labelled_text, question_line, script_text, sort_line}
 use Rattle.smtlib_printer.specs.Names.{marks_of, name_text, variable_text}
 use Rattle.smtlib_printer.specs.Text.{binder_text, binders_text, formula_text_with, list_text, sort_text, spaced, spaced_rest}
-use Rattle.smtlib_terms.specs.Meaning.{variables_in}
+use Rattle.mbqi_terms.specs.Binders.{variables_in}
 use Rattle.measured_terms.proofs.FormulaLaws as measure
 use Rattle.printed_trees.proofs.TextLaws as text_law
 use Rattle.scripts_in_form.proofs.Placed.{AreAllPlaced, IsPlaced}

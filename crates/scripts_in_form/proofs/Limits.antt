@@ -4,7 +4,7 @@ use Rattle.std.proofs.lemmas.List.Sums.{sum_by-cons}
 use Rattle.mbqi_terms.specs.declared.formula.Formula.{Formula}
 use Rattle.mbqi_terms.specs.declared.script.Script.{Script}
 use Rattle.mbqi_terms.specs.declared.sort.Binder.{Binder}
-use Rattle.smtlib_terms.specs.Meaning.{variables_in}
+use Rattle.mbqi_terms.specs.Binders.{variables_in}
 use Rattle.measured_terms.proofs.FormulaLaws as measure
 use Rattle.printed_trees.specs.InForm.{AreBound, AreFormulas, IsFormula}
 use Rattle.scripts_in_form.proofs.Placed.{AreAllPlaced, AreBinders, IsPlaced}

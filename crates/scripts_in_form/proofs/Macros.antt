@@ -11,7 +11,7 @@ use Rattle.smtlib_terms.specs.declared.meaning.Meaning.TheVariants as meaning
 use Rattle.smtlib_terms.specs.declared.names.Macro.{Macro}
 use Rattle.smtlib_terms.specs.declared.names.Parameter.{Parameter}
 use Rattle.smtlib_terms.specs.Declaring.{Declarations, arguments, formula_read, names_of, reader_of, with_macro}
-use Rattle.smtlib_terms.specs.Meaning.{depth_of_formula}
+use Rattle.mbqi_terms.specs.Depth.{depth_of_formula}
 use Rattle.smtlib_terms.specs.Names.{Signature, function_named, macro_named}
 use Rattle.smtlib_terms.specs.Operators.{as_formula}
 use Rattle.smtlib_terms.specs.Reading.{meant_by, side}

@@ -19,8 +19,8 @@ use Rattle.smtlib_terms.specs.declared.meaning.Meaning.{Meaning}
 use Rattle.smtlib_terms.specs.declared.meaning.Meaning.TheVariants as meaning
 use Rattle.smtlib_terms.specs.declared.names.Binding.{Binding}
 use Rattle.smtlib_terms.specs.Applying.{Pointwise, are_over, arrays_of, bound_pointwise, connective_of, declared_pointwise, function_pointwise, is_over, mapped, mapped_over, negation_pointwise, plain_of, pointwise_named}
-use Rattle.smtlib_terms.specs.Meaning.{variables_of, varies}
-use Rattle.smtlib_terms.specs.Names.{Reader, Signature, bound_to, function_named, is_array, is_plain, is_sort, macro_named, plain_sort}
+use Rattle.smtlib_terms.specs.Meaning.{variables_of}
+use Rattle.smtlib_terms.specs.Names.{Reader, Signature, bound_to, function_named, macro_named}
 use Rattle.smtlib_terms.specs.Operators.{unbound}
 use Rattle.smtlib_terms.specs.Words.{is_reserved_word, is_text}
 use Rattle.printed_trees.specs.InForm.{AreArrays, IsArray, IsPlainSort, IsPointwise}
@@ -28,6 +28,8 @@ use Rattle.printed_trees.specs.Scripts.{IsResultSort}
 use Rattle.scripts_in_form.proofs.SameSorts.{same_plain, same_sort}
 use Rattle.scripts_in_form.proofs.Placed.{AreMeanings, IsArrayOf, IsFunction, IsMeaning, IsSignature}
 use Rattle.scripts_in_form.proofs.Steps.{passed, stepped}
+use Rattle.mbqi_terms.specs.Varies.{varies}
+use Rattle.mbqi_terms.specs.Sort.{is_array, plain_sort, is_plain, is_sort}
 
 -- what a map's function takes and gives, if its places are at least one and of plain sorts
 record IsGiven (script : Script) (p : Pointwise) (es : List Plain) : Type 0 where

@@ -14,14 +14,16 @@ use Rattle.smtlib_terms.specs.declared.meaning.Bound.TheVariants.{Variable, Valu
 use Rattle.smtlib_terms.specs.declared.meaning.Meaning.{Meaning}
 use Rattle.smtlib_terms.specs.declared.meaning.Meaning.TheVariants as meaning
 use Rattle.smtlib_terms.specs.Applying.{meaning_in_scope}
-use Rattle.smtlib_terms.specs.Meaning.{deepest, depth_of_formula, shifted, shifted_binder, shifted_formula, shifted_place, shifted_term, variables_in}
-use Rattle.smtlib_terms.specs.Names.{plain_sort}
+use Rattle.smtlib_terms.specs.Meaning.{shifted, shifted_binder, shifted_formula, shifted_place, shifted_term}
+use Rattle.mbqi_terms.specs.Depth.{deepest, depth_of_formula}
 use Rattle.measured_terms.proofs.FormulaLaws as measure
 use Rattle.measured_terms.proofs.TermLaws as term_measure
 use Rattle.moved_terms.proofs.FormulaMoves as move
 use Rattle.printed_trees.specs.InForm.{ArePlaced, HasSort, IsIndexSort, IsVariableSort, sort_at}
 use Rattle.scripts_in_form.proofs.Placed.{AreAllPlaced, AreBinders, Extends, IsBelow, IsBound, IsPlaced, IsRead, Moves}
 use Rattle.scripts_in_form.proofs.Moving.{closed_array, moved_term, moved_term_depth, widened_array, widened_term}
+use Rattle.mbqi_terms.specs.Binders.{variables_in}
+use Rattle.mbqi_terms.specs.Sort.{plain_sort}
 
 moved_length : (from by : ℕ) (bs : List Binder) → length (map (shifted_binder from by) bs) ≡ length bs
 moved_length from by [] = refl

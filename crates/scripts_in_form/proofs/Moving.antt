@@ -13,14 +13,16 @@ use Rattle.mbqi_terms.specs.declared.term.Term.{Term, out-Term}
 use Rattle.mbqi_terms.specs.declared.term.Term.TheVariants as term
 use Rattle.mbqi_terms.specs.Tree.{IsBase}
 use Rattle.mbqi_terms.proofs.Levels.{out-apply, out-default, out-num, out-plus, out-read, out-var}
-use Rattle.smtlib_terms.specs.Meaning.{depth_of_term, shifted_place, shifted_term, varies, varies_term}
-use Rattle.smtlib_terms.specs.Names.{plain_sort}
+use Rattle.smtlib_terms.specs.Meaning.{shifted_place, shifted_term}
+use Rattle.mbqi_terms.specs.Depth.{depth_of_term}
 use Rattle.measured_terms.proofs.ArrayLaws as array_measure
 use Rattle.measured_terms.proofs.TermLaws as term_measure
 use Rattle.moved_terms.specs.Moves.{shifted_array, shifted_symbol}
 use Rattle.moved_terms.proofs.TermMoves as move
 use Rattle.printed_trees.specs.InForm.{AreArrays, HasSort, HaveSorts, IsArray, IsElement}
 use Rattle.scripts_in_form.proofs.Placed.{Extends, Moves}
+use Rattle.mbqi_terms.specs.Varies.{varies, varies_term}
+use Rattle.mbqi_terms.specs.Sort.{plain_sort}
 
 -- the parts of what has no variables have none
 or_parts : (a b c : Bool) → c ≡ (a || b) → c ≡ false → (a ≡ false) × (b ≡ false)

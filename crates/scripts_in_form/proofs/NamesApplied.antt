@@ -20,8 +20,8 @@ use Rattle.smtlib_terms.specs.declared.meaning.Meaning.{Meaning}
 use Rattle.smtlib_terms.specs.declared.meaning.Meaning.TheVariants as meaning
 use Rattle.smtlib_terms.specs.declared.names.Binding.{Binding}
 use Rattle.smtlib_terms.specs.Applying.{alone, application, bound_applied, declared_applied, fitting, function_applied, have_sorts, meaning_in_scope, name_applied, terms_of}
-use Rattle.smtlib_terms.specs.Meaning.{depth_of, depth_of_term, sort_of}
-use Rattle.smtlib_terms.specs.Names.{Reader, Signature, bound_to, function_named, is_array, is_sort, macro_named, plain_sort}
+use Rattle.smtlib_terms.specs.Meaning.{depth_of, sort_of}
+use Rattle.smtlib_terms.specs.Names.{Reader, Signature, bound_to, function_named, macro_named}
 use Rattle.measured_terms.proofs.ArrayLaws.{depth-Name, varies-Name}
 use Rattle.measured_terms.proofs.FormulaLaws.{depth-Atom}
 use Rattle.measured_terms.proofs.SymbolLaws.{depth-Declared}
@@ -31,6 +31,8 @@ use Rattle.printed_trees.specs.Scripts.{IsResultSort}
 use Rattle.scripts_in_form.proofs.Placed.{AreValues, IsBelow, IsBound, IsFunction, IsMeaning, IsPlaced, IsRead, IsReader, IsScope, IsSignature}
 use Rattle.scripts_in_form.proofs.SameSorts.{same_sort}
 use Rattle.scripts_in_form.proofs.Steps.{passed}
+use Rattle.mbqi_terms.specs.Depth.{depth_of_term}
+use Rattle.mbqi_terms.specs.Sort.{is_array, plain_sort, is_sort}
 
 no_truth : (script : Script) (s : Sort) → IsVariableSort script s → is_sort s sort.Truth ≡ false
 no_truth script sort.Truth is = absurd is

@@ -17,10 +17,13 @@ use Rattle.smtlib_terms.specs.declared.meaning.Meaning.TheVariants as meaning
 use Rattle.smtlib_terms.specs.declared.meaning.Side.{Side}
 use Rattle.smtlib_terms.specs.declared.meaning.Side.TheVariants.{Meant, Difference}
 use Rattle.smtlib_terms.specs.declared.names.Binding.{Binding}
-use Rattle.smtlib_terms.specs.Meaning.{depth_of, shifted_place, variables_in, variables_of, varies}
-use Rattle.smtlib_terms.specs.Names.{Reader, Signature, bound_to, function_named, macro_named, plain_sort}
+use Rattle.smtlib_terms.specs.Meaning.{depth_of, shifted_place, variables_of}
+use Rattle.smtlib_terms.specs.Names.{Reader, Signature, bound_to, function_named, macro_named}
 use Rattle.printed_trees.specs.InForm.{ArePlaced, HasSort, IsArray, IsIndexSort, IsPlainSort, IsVariableSort, sort_at}
 use Rattle.printed_trees.specs.Scripts.{IsRanked}
+use Rattle.mbqi_terms.specs.Binders.{variables_in}
+use Rattle.mbqi_terms.specs.Varies.{varies}
+use Rattle.mbqi_terms.specs.Sort.{plain_sort}
 
 -- At least one binder, with the places from `next` on.
 pub record AreBinders (script : Script) (next : ℕ) (bs : List Binder) : Type 0 where

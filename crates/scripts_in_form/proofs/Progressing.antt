@@ -17,8 +17,8 @@ use Rattle.mbqi_terms.specs.declared.sort.Sort.TheVariants as sort
 use Rattle.sexpr_text.specs.declared.tree.Form.{Form}
 use Rattle.sexpr_text.specs.declared.tree.Sexpr.{Sexpr}
 use Rattle.smtlib_terms.specs.Declaring.{Declarations, formula_read, is_first_order, is_function}
-use Rattle.smtlib_terms.specs.Meaning.{depth_of_formula, variables_in}
-use Rattle.smtlib_terms.specs.Names.{is_array}
+use Rattle.mbqi_terms.specs.Depth.{depth_of_formula}
+use Rattle.mbqi_terms.specs.Binders.{variables_in}
 use Rattle.smtlib_terms.specs.Words.{is_one_of}
 use Rattle.smtlib_names.proofs.Named.{any_function}
 use Rattle.smtlib_decls.specs.declared.progress.Progress.{Progress}
@@ -33,6 +33,7 @@ use Rattle.scripts_in_form.proofs.LegalNames.{IsLegalForm}
 use Rattle.scripts_in_form.proofs.OneMore.{all_more, get_before, labels_differ, names_differ}
 use Rattle.scripts_in_form.proofs.Placed.{IsFunction, IsPlaced}
 use Rattle.scripts_in_form.proofs.SortsRead.{sort_read_is}
+use Rattle.mbqi_terms.specs.Sort.{is_array}
 
 -- What was declared so far is a first part of the script.
 pub record IsPart (script : Script) (d : Declarations) : Type 0 where

@@ -5,7 +5,7 @@ use Rattle.mbqi_terms.specs.declared.sort.Plain.{Plain}
 use Rattle.mbqi_terms.specs.declared.sort.Plain.TheVariants as plain
 use Rattle.mbqi_terms.specs.declared.sort.Sort.{Sort}
 use Rattle.mbqi_terms.specs.declared.sort.Sort.TheVariants as sort
-use Rattle.smtlib_terms.specs.Names.{is_plain, is_sort, plain_sort}
+use Rattle.mbqi_terms.specs.Sort.{plain_sort, is_plain, is_sort}
 
 pub same_number : (a b : ℕ) → eqb a b ≡ true → a ≡ b
 same_number a b e = grind (arith, nat_tests)

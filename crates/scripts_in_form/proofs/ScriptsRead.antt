@@ -11,7 +11,7 @@ use Rattle.sexpr_text.specs.declared.tree.Sexpr.{Sexpr}
 use Rattle.smtlib_decls.specs.Means.{Means}
 use Rattle.smtlib_printer.specs.Names.{marks_of}
 use Rattle.smtlib_terms.specs.Declaring.{Declarations, formula_read}
-use Rattle.smtlib_terms.specs.Meaning.{depth_of_formula, variables_in}
+use Rattle.mbqi_terms.specs.Depth.{depth_of_formula}
 use Rattle.smtlib_terms.specs.Names.{function_named}
 use Rattle.smtlib_terms.specs.Words.{is_text}
 use Rattle.printed_trees.specs.Scripts.{IsInForm}
@@ -24,6 +24,7 @@ use Rattle.scripts_in_form.proofs.Macros.{formula_is_read}
 use Rattle.scripts_in_form.proofs.Placed.{IsFunction, IsPlaced}
 use Rattle.scripts_in_form.proofs.Progressing.{IsPart, script_in_form}
 use Rattle.scripts_in_form.proofs.Steps.{first_or_rest}
+use Rattle.mbqi_terms.specs.Binders.{variables_in}
 
 -- the function of a name stands at its number
 record IsFoundAt (at : ℕ) (fs : List Function) (number : ℕ) (g : Function) : Type 0 where

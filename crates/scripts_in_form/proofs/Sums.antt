@@ -18,12 +18,13 @@ use Rattle.smtlib_terms.specs.declared.meaning.Meaning.TheVariants as meaning
 use Rattle.smtlib_terms.specs.declared.meaning.Side.{Side}
 use Rattle.smtlib_terms.specs.declared.meaning.Side.TheVariants.{Meant, Difference}
 use Rattle.smtlib_terms.specs.Meaning.{variables_of}
-use Rattle.smtlib_terms.specs.Number.{Sum, bases_of, difference, is_within, less, limit_of, negation, negation_of, plus_number, sum_of, sum_of_terms, summed, summed_beside, term_of, total_of}
+use Rattle.smtlib_terms.specs.Number.{Sum, bases_of, difference, less, limit_of, negation, negation_of, plus_number, sum_of, sum_of_terms, summed, summed_beside, term_of, total_of}
 use Rattle.smtlib_terms.specs.Operators.{addition, as_integer, as_integers, integer_meant, is_numeral, meant, subtracted, subtraction}
 use Rattle.printed_trees.specs.InForm.{HasSort}
 use Rattle.scripts_in_form.proofs.Placed.{AreMeanings, IsMeaning, IsSideMeaning, IsTermOf}
 use Rattle.scripts_in_form.proofs.SameSorts.{one_plain}
 use Rattle.scripts_in_form.proofs.Steps.{passed, same_ok, stepped}
+use Rattle.mbqi_terms.specs.Limits.{is_within}
 
 -- integers
 abbrev pub AreIntegers : Script → List Binder → List Term → Type 0

@@ -22,7 +22,7 @@ use Rattle.sexpr_text.specs.declared.tree.Sexpr.{Sexpr}
 use Rattle.sexpr_text.specs.declared.tree.Sexpr.TheBlock.{hidden-the_row-Sexpr-0}
 use Rattle.sexpr_text.specs.declared.tree.Sexpr.TheVariants as tree
 use Rattle.smtlib_terms.specs.Declaring.{formula_read, function_declared, sort_declared}
-use Rattle.smtlib_terms.specs.Meaning.{shifted_formula, shifted_term, depth_of_formula, depth_of_term, depth_of_array, varies, variables_in}
+use Rattle.smtlib_terms.specs.Meaning.{shifted_formula, shifted_term}
 use Rattle.smtlib_terms.specs.Names.{sort_meant}
 use Rattle.smtlib_terms.specs.Reading.{side, trees_in}
 use Rattle.smtlib_terms.specs.Words.{word_of, is_reserved, is_reserved_word}
@@ -31,6 +31,9 @@ use Rattle.smtlib_decls.specs.Commands.{command_meant, command_of, constant_decl
 use Rattle.smtlib_decls.specs.Labels.{label_of}
 use Rattle.smtlib_decls.specs.Means.{Refused}
 use Rattle.smtlib_decls.specs.Scripts.{is_exit, script_meant}
+use Rattle.mbqi_terms.specs.Depth.{depth_of_formula, depth_of_term, depth_of_array}
+use Rattle.mbqi_terms.specs.Varies.{varies}
+use Rattle.mbqi_terms.specs.Binders.{variables_in}
 use denote.Hole.Carrier.{hidden}
 
 abbrev form : ℕ → ℕ → Sexpr → Form

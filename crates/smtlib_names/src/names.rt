@@ -2,10 +2,11 @@
 
 ghost use Rattle.std.specs.Prelude.{◌≡◌, [], ◌∷◌, length, false, None, Some, MatchOption, OnOk, OnErr};
 ghost use Rattle.std.specs.List.{list_all, list_any};
-ghost use Rattle.smtlib_terms.specs.Names.{function_named, is_array, macro_named};
+ghost use Rattle.smtlib_terms.specs.Names.{function_named, macro_named};
 ghost use Rattle.smtlib_terms.specs.Answers.{Answers, Declares};
 ghost use Rattle.smtlib_terms.specs.Words.{is_one_of};
 ghost use Rattle.smtlib_terms.specs.Declaring.{function_declared, is_first_order, is_function, is_supported, names_before, reader_of, released, sort_declared, sort_read, with_definition, with_function};
+ghost use Rattle.mbqi_terms.specs.Sort.{is_array};
 
 use crate::sorts::sort_of_tree;
 use crate::table::Table;

@@ -23,11 +23,14 @@ use Rattle.smtlib_terms.specs.Declaring.{Declarations, formula_read, macro_defin
 use Rattle.smtlib_terms.specs.Reading.{side, trees_in}
 use Rattle.smtlib_terms.specs.Words.{word_of, is_reserved, is_reserved_word}
 use Rattle.smtlib_terms.specs.Names.{sort_meant}
-use Rattle.smtlib_terms.specs.Meaning.{shifted_formula, shifted_term, depth_of_formula, depth_of_term, depth_of_array, varies, variables_in}
+use Rattle.smtlib_terms.specs.Meaning.{shifted_formula, shifted_term}
 use Rattle.sexpr_text.specs.declared.tree.Sexpr.TheBlock.{hidden-the_row-Sexpr-0}
 use Rattle.mbqi_terms.specs.declared.term.ArrayTerm.TheBlock.{hidden-the_row-Term-1}
 use denote.Hole.Carrier.{hidden}
 use Rattle.std.proofs.Common.{rules}
+use Rattle.mbqi_terms.specs.Depth.{depth_of_formula, depth_of_term, depth_of_array}
+use Rattle.mbqi_terms.specs.Varies.{varies}
+use Rattle.mbqi_terms.specs.Binders.{variables_in}
 
 abbrev l : List Sexpr → Sexpr
 l trees = tree.List trees

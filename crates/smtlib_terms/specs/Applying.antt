@@ -19,9 +19,10 @@ use Rattle.smtlib_terms.specs.declared.meaning.Meaning.{Meaning}
 use Rattle.smtlib_terms.specs.declared.meaning.Meaning.TheVariants as meaning
 use Rattle.smtlib_terms.specs.declared.names.Binding.{Binding}
 use Rattle.smtlib_terms.specs.Meaning.{shifted, sort_of}
-use Rattle.smtlib_terms.specs.Names.{◌>>=◌, Reader, Signature, bound_to, function_named, is_plain, is_sort, macro_named, plain_sort}
+use Rattle.smtlib_terms.specs.Names.{◌>>=◌, Reader, Signature, bound_to, function_named, macro_named}
 use Rattle.smtlib_terms.specs.Operators.{term_meant, unbound}
 use Rattle.smtlib_terms.specs.Words.{is_reserved_word, is_text}
+use Rattle.mbqi_terms.specs.Sort.{plain_sort, is_plain, is_sort}
 
 -- The sorts of the arguments are those of the places.
 abbrev pub have_sorts : List Sort → List Meaning → Bool

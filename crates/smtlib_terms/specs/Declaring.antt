@@ -14,10 +14,11 @@ use Rattle.smtlib_terms.specs.declared.names.Macro.{Macro}
 use Rattle.smtlib_terms.specs.declared.names.Parameter.{Parameter}
 use Rattle.smtlib_terms.specs.Applying.{application}
 use Rattle.smtlib_terms.specs.Meaning.{sort_of}
-use Rattle.smtlib_terms.specs.Names.{◌>>=◌, Reader, Signature, is_array, is_sort, is_symbol, sort_meant}
+use Rattle.smtlib_terms.specs.Names.{◌>>=◌, Reader, Signature, is_symbol, sort_meant}
 use Rattle.smtlib_terms.specs.Operators.{as_formula}
 use Rattle.smtlib_terms.specs.Reading.{bindable, binder_name, binder_sort, is_binder, is_list, is_some_symbol, meant_by, text_of, trees_in}
 use Rattle.smtlib_terms.specs.Words.{is_one_of, is_reserved}
+use Rattle.mbqi_terms.specs.Sort.{is_array, is_sort}
 
 -- What was declared and defined, in order (SMT-LIB 2.6, section 4.2.3).
 pub record Declarations : Type 0 where

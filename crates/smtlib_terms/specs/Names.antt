@@ -50,32 +50,6 @@ abbrev pub bound_to : List ℕ → List Binding → Option Bound
 bound_to name [] = None
 bound_to name (b ∷ bs) = if is_text name b.name then Some b.bound else bound_to name bs
 
--- The sort of an array's index or element.
-abbrev pub plain_sort : Plain → Sort
-plain_sort plain.Truth = sort.Truth
-plain_sort plain.Int = sort.Int
-plain_sort (plain.Elem s) = sort.Elem s
-
-abbrev pub is_plain : Plain → Plain → Bool
-is_plain plain.Truth plain.Truth = true
-is_plain plain.Int plain.Int = true
-is_plain (plain.Elem s) (plain.Elem t) = s == t
-is_plain p q = false
-
--- Whether two sorts are one.
-abbrev pub is_sort : Sort → Sort → Bool
-is_sort sort.Truth sort.Truth = true
-is_sort sort.Int sort.Int = true
-is_sort (sort.Elem s) (sort.Elem t) = s == t
-is_sort (sort.Array i e) (sort.Array j f) = is_plain i j && is_plain e f
-is_sort s t = false
-
-abbrev pub is_array : Sort → Bool
-is_array (sort.Array i e) = true
-is_array sort.Truth = false
-is_array sort.Int = false
-is_array (sort.Elem s) = false
-
 -- The sort of arrays (SMT-LIB 2.6, theory ArraysEx). Arrays over Bool, and arrays of arrays, are left out.
 abbrev pub array_of_plain : Plain → Sort → Result Sort FaultKind
 array_of_plain i sort.Truth = Ok (sort.Array i plain.Truth)

@@ -27,11 +27,6 @@ abbrev pub term_of : Option Term → ℤ → Term
 term_of None n = term.Num n
 term_of (Some t) n = plus_number t n
 
--- The number is absolutely at most the limit.
-abbrev pub is_within : ℕ → ℤ → Bool
-is_within limit (pos n) = nat_le n limit
-is_within limit (negsuc n) = nat_lt n limit
-
 -- The limits of the profile (this project's own): of a numeral, and of the number beside another term.
 abbrev pub limit_of : Option Term → ℕ
 limit_of None = 2 ^ 63 - 1

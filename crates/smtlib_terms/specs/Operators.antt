@@ -18,9 +18,12 @@ use Rattle.smtlib_terms.specs.declared.meaning.Side.{Side}
 use Rattle.smtlib_terms.specs.declared.meaning.Side.TheVariants.{Meant, Difference}
 use Rattle.smtlib_terms.specs.declared.word.Word.{Word}
 use Rattle.smtlib_terms.specs.declared.word.Word.TheVariants as word
-use Rattle.smtlib_terms.specs.Meaning.{is_quantified, sort_of, varies}
-use Rattle.smtlib_terms.specs.Names.{◌>>=◌, is_sort, plain_sort}
+use Rattle.smtlib_terms.specs.Meaning.{sort_of}
+use Rattle.smtlib_terms.specs.Names.{◌>>=◌}
 use Rattle.smtlib_terms.specs.Number.{difference, negation, sum_of, sum_of_terms, summed}
+use Rattle.mbqi_terms.specs.Binders.{is_quantified}
+use Rattle.mbqi_terms.specs.Varies.{varies}
+use Rattle.mbqi_terms.specs.Sort.{plain_sort, is_sort}
 
 -- At least, or exactly, so many arguments.
 abbrev pub at_least : {A B : Type 0} → ℕ → List A → Result B FaultKind → Result B FaultKind

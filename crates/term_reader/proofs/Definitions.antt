@@ -9,9 +9,10 @@ use Rattle.smtlib_terms.specs.declared.names.Macro.{Macro}
 use Rattle.smtlib_terms.specs.declared.names.Parameter.{Parameter}
 use Rattle.smtlib_terms.specs.Declaring.{Declarations, defined, definition_of, definition_read, is_function, parameters_of, with_definition}
 use Rattle.smtlib_terms.specs.Meaning.{sort_of}
-use Rattle.smtlib_terms.specs.Names.{◌>>=◌, is_sort, sort_meant}
+use Rattle.smtlib_terms.specs.Names.{◌>>=◌, sort_meant}
 use Rattle.smtlib_terms.specs.Words.{is_reserved}
 use Rattle.term_reader.specs.Defining.{body_meant, definition_checked, macro_described, macro_read, may_define}
+use Rattle.mbqi_terms.specs.Sort.{is_sort}
 
 -- what is kept of a definition that may be
 kept : (reserved taken fits : Bool) (after : Declarations)

@@ -9,9 +9,10 @@ use Rattle.smtlib_terms.specs.declared.meaning.Meaning.{Meaning}
 use Rattle.smtlib_terms.specs.declared.names.Macro.{Macro}
 use Rattle.smtlib_terms.specs.Declaring.{Declarations, arguments, is_function, names_of, opaque_from, parameters_of}
 use Rattle.smtlib_terms.specs.Meaning.{sort_of}
-use Rattle.smtlib_terms.specs.Names.{◌>>=◌, is_sort, is_symbol, sort_meant}
+use Rattle.smtlib_terms.specs.Names.{◌>>=◌, is_symbol, sort_meant}
 use Rattle.smtlib_terms.specs.Reading.{is_binder, is_list, is_some_symbol, meant_by, text_of, trees_in}
 use Rattle.smtlib_terms.specs.Words.{is_reserved}
+use Rattle.mbqi_terms.specs.Sort.{is_sort}
 
 -- What the body means with opaque arguments.
 abbrev pub body_meant : Declarations → Macro → Result Meaning FaultKind

@@ -11,7 +11,7 @@ use Rattle.mbqi_terms.specs.declared.script.Assertion.{Assertion}
 use Rattle.mbqi_terms.specs.declared.script.Script.{Script}
 use Rattle.mbqi_terms.specs.declared.term.Term.{Term}
 use Rattle.mbqi_terms.proofs.Places.{all_at}
-use Rattle.function_model.specs.TruthOf.{Meanings, truth_of}
+use Rattle.mbqi_terms.specs.Meanings.{Meanings, truth_of}
 use Rattle.ground_form.specs.Atoms.{Decides, IsPool}
 use Rattle.ground_form.specs.Profile.{IsArgument, IsClause, IsElementary, IsRule, seed}
 use Rattle.ground_form.specs.declared.atoms.GroundAtom.{GroundAtom}

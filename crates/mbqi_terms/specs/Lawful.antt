@@ -2,17 +2,16 @@
 use Rattle.std.specs.Prelude.{◌≡◌, ℤ, Bool, List, map, Some}
 use Rattle.mbqi_values.specs.declared.value.Value.{Value}
 use Rattle.mbqi_values.specs.declared.value.Value.TheVariants.{Num, Elem, Truth}
+use Rattle.mbqi_values.specs.Value.{plus_number}
 use Rattle.mbqi_terms.specs.Lists.{sort_of_term}
-use Rattle.mbqi_terms.specs.declared.script.Function.{Function}
 use Rattle.mbqi_terms.specs.declared.sort.Sort.{Sort}
 use Rattle.mbqi_terms.specs.declared.sort.Sort.TheVariants as sort
+use Rattle.mbqi_terms.specs.declared.store.lists.Lists.{Lists}
 use Rattle.mbqi_terms.specs.declared.term.ArrayTerm.{ArrayTerm}
 use Rattle.mbqi_terms.specs.declared.term.ArrayTerm.TheOpen.{Term-F}
 use Rattle.mbqi_terms.specs.declared.term.Symbol.{Symbol}
 use Rattle.mbqi_terms.specs.declared.term.Term.{Term, out-Term}
-use Rattle.function_model.specs.TruthOf.{Meanings}
-use Rattle.function_model.specs.ValueOf.{plus_number}
-use Rattle.rule_form.specs.Instance.{lists_of}
+use Rattle.mbqi_terms.specs.Meanings.{Meanings}
 
 -- The value has the sort, whatever elements there are.
 abbrev pub IsOfSort : Sort → Value → Type 0
@@ -27,10 +26,10 @@ IsOfSort (sort.Elem s) (Num n) = ⊥
 IsOfSort (sort.Elem s) (Truth t) = ⊥
 IsOfSort (sort.Array i e) v = ⊥
 
--- The values of the terms that stand there are as the terms ask: each has its sort, numerals and truths have their own value, a sum has
+-- The values of the terms that stand there are as the terms ask: each has its sort by the lists, numerals and truths have their own value, a sum has
 -- that of its term plus its number, and applications of one symbol, or reads of one array, to equal values have equal values.
-pub record IsPlainlyLawful (functions : List Function) (Stands : Term → Type 0) (m : Meanings) : Type 0 where
-  pub sorts : (t : Term) (s : Sort) → Stands t → sort_of_term (lists_of functions) t ≡ Some s → IsOfSort s (m.value t)
+pub record IsPlainlyLawful (l : Lists) (Stands : Term → Type 0) (m : Meanings) : Type 0 where
+  pub sorts : (t : Term) (s : Sort) → Stands t → sort_of_term l t ≡ Some s → IsOfSort s (m.value t)
   pub numbers : (t : Term) (n : ℤ) → Stands t → out-Term t ≡ Term-F.Num n → m.value t ≡ Num n
   pub truths : (t : Term) (b : Bool) → Stands t → out-Term t ≡ Term-F.Truth b → m.value t ≡ Truth b
   pub sums : (t u : Term) (n : ℤ) → Stands t → out-Term t ≡ Term-F.Plus u n → m.value t ≡ plus_number (m.value u) n

@@ -1,15 +1,18 @@
-use Rattle.std.specs.Prelude.{Bool, not, if◌then◌else◌}
+-- What terms are worth and which formulas are true under a valuation (SMT-LIB 2.6, theory Core).
+use Rattle.std.specs.Prelude.{Bool, false, not, List, [], ◌∷◌, if◌then◌else◌}
 use Rattle.std.specs.List.{list_all, list_any}
 use Rattle.std.specs.Ordering.{is_le}
-use Rattle.mbqi_values.specs.Value.{rank_of}
+use Rattle.mbqi_values.specs.Value.{is_same, is_true, rank_of}
 use Rattle.mbqi_values.specs.declared.value.Value.{Value}
+use Rattle.mbqi_values.specs.declared.value.Value.TheVariants.{Truth}
+use Rattle.mbqi_terms.specs.declared.arrays.ArrayPair.{ArrayPair}
 use Rattle.mbqi_terms.specs.declared.formula.Formula.{Formula}
 use Rattle.mbqi_terms.specs.declared.formula.Formula.TheFolds.{fold-Formula}
 use Rattle.mbqi_terms.specs.declared.formula.Formula.TheOpen.{Formula-F}
+use Rattle.mbqi_terms.specs.declared.instance.Valuation.{Valuation}
 use Rattle.mbqi_terms.specs.declared.term.ArrayTerm.{ArrayTerm}
 use Rattle.mbqi_terms.specs.declared.term.Term.{Term}
-use Rattle.function_model.specs.Lookup.{is_same}
-use Rattle.function_model.specs.ValueOf.{is_true}
+use Rattle.mbqi_terms.specs.SameTree.{same_pair, same_term}
 
 -- What a valuation gives: a value for each term, and a truth for each pair of arrays.
 pub record Meanings : Type 0 where
@@ -34,3 +37,21 @@ truth_layer m (Formula-F.Exists binders f) = f
 -- The truth of a formula without quantifiers under a valuation.
 abbrev pub truth_of : Meanings → Formula → Bool
 truth_of m f = fold-Formula Bool (truth_layer m) f
+
+-- What a list of terms with their values gives, and a list of pairs of arrays with their truths: each term and pair what stands at its own
+-- place. What isn't there is false.
+abbrev pub value_by : List Term → List Value → Term → Value
+value_by [] values t = Truth false
+value_by (u ∷ terms) [] t = Truth false
+value_by (u ∷ terms) (v ∷ values) t = if same_term u t then v else value_by terms values t
+
+abbrev pub same_by : List ArrayPair → List Bool → ArrayPair → Bool
+same_by [] truths pair = false
+same_by (p ∷ pairs) [] pair = false
+same_by (p ∷ pairs) (truth ∷ truths) pair = if same_pair p pair then truth else same_by pairs truths pair
+
+abbrev pub meanings_of : Valuation → Meanings
+meanings_of v = record {
+  value = λ t. value_by v.terms v.values t;
+  same = λ a b. same_by v.pairs v.same (record { left = a; right = b });
+}
