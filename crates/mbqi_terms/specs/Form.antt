@@ -40,3 +40,17 @@ IsLayerInForm l (Term-F.Default a) = Contains l.arrays.terms a × IsSome (elemen
 -- Each part of the term is in form.
 abbrev pub IsTermInForm : Lists → Term → Type 0
 IsTermInForm l t = (part : Term) → IsPart part t → IsLayerInForm l (out-Term part)
+
+-- The arrays that one level of a term names are listed: those that are read, or whose default is named, and the pair of a difference index.
+abbrev pub IsLayerListed : Lists → Layer → Type 0
+IsLayerListed l (Term-F.Num n) = Unit {0}
+IsLayerListed l (Term-F.Plus t n) = Unit {0}
+IsLayerListed l (Term-F.Var k) = Unit {0}
+IsLayerListed l (Term-F.Truth b) = Unit {0}
+IsLayerListed l (Term-F.Apply f ts) = IsListed l (out-Symbol f)
+IsLayerListed l (Term-F.Read a i) = Contains l.arrays.terms a
+IsLayerListed l (Term-F.Default a) = Contains l.arrays.terms a
+
+-- So are those of each part of a term. A term that has a sort and whose arrays are listed is what a store takes.
+abbrev pub IsTermListed : Lists → Term → Type 0
+IsTermListed l t = (part : Term) → IsPart part t → IsLayerListed l (out-Term part)
