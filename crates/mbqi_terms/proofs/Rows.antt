@@ -82,7 +82,6 @@ arrays_of_store : arrays_in_array stored ≡ record { terms = a ∷ stored ∷ [
 unfolding arrays_in_array
 arrays_of_store = search (rules, arrays.the_lemmas, terms.the_lemmas)
 
-
 arrays_of_equality : arrays_in (formula.SameArray b stored)
     ≡ record { terms = b ∷ a ∷ stored ∷ []; atoms = record { left = b; right = stored } ∷ []; defaults = [] }
 unfolding arrays_in arrays_in_array
@@ -93,7 +92,6 @@ arrays_of_equality = search (rules, formulas.the_lemmas, arrays.the_lemmas, term
 arrays_of_default : arrays_in_term (term.Read b (term.Default a)) ≡ record { terms = b ∷ a ∷ []; atoms = []; defaults = a ∷ [] }
 unfolding arrays_in_term
 arrays_of_default = search (rules, arrays.the_lemmas, terms.the_lemmas)
-
 
 abbrev storing : Script
 storing = record {
@@ -144,8 +142,8 @@ wrong_application : (l : Lists) (worth : Term → Value) (f : Symbol) (t u : Ter
     → IsPlainlyLawful l (λ s. (s ≡ term.Apply f (t ∷ [])) ⊎ (s ≡ term.Apply f (u ∷ []))) (valued worth) → ⊥
 wrong_application l worth f t u same first second lawful =
     let alike : worth (term.Apply f (t ∷ [])) ≡ worth (term.Apply f (u ∷ [])) =
-        lawful.applications (term.Apply f (t ∷ [])) (term.Apply f (u ∷ [])) f (t ∷ []) (u ∷ []) (inl refl) (inr refl) (out-apply f (t ∷ [])) (out-apply f (u ∷ []))
-        (ap (λ v. v ∷ []) same) in
+    lawful.applications (term.Apply f (t ∷ [])) (term.Apply f (u ∷ [])) f (t ∷ []) (u ∷ []) (inl refl) (inr refl) (out-apply f (t ∷ [])) (out-apply f (u ∷ []))
+    (ap (λ v. v ∷ []) same) in
     cc (alike, first, second)
 
 -- a numeral with its own value is lawfully valued

@@ -115,9 +115,10 @@ module _ (g : Setting) (scope : List Binder) where
       → symbol_layer_places l x ≡ Some (map plain_sort ss) → HaveSortsIn g scope ts ss → IsTermListed l (term.Apply f ts)
       → ((u : Term) → Contains ts u → IsTermInForm l u) → IsTermInForm l (term.Apply f ts)
   applied_taken f x ts ss e places arguments listed each =
-      by_level l (term.Apply f ts) (Term-F.Apply f ts) (out-apply f ts)
-      (subst (λ o. FitPlaces l o ts) (sym (ap (symbol_layer_places l) e ∙ places)) (all_suit ts ss arguments),
-       subst (IsLayerListed l) (out-apply f ts) (listed (term.Apply f ts) (IsPart.itself (term.Apply f ts))))
+      by_level l (term.Apply f ts) (Term-F.Apply f ts) (out-apply f ts) (
+        subst (λ o. FitPlaces l o ts) (sym (ap (symbol_layer_places l) e ∙ places)) (all_suit ts ss arguments),
+        subst (IsLayerListed l) (out-apply f ts) (listed (term.Apply f ts) (IsPart.itself (term.Apply f ts))),
+      )
       each
 
   no_argument : (u : Term) → Contains [] u → IsTermInForm l u
@@ -144,14 +145,16 @@ module _ (g : Setting) (scope : List Binder) where
     taken t s (HasSortIn.differing a b i e hidden index left right) listed =
         applied_taken (symbol.Diff a b) (Symbol-F.Diff a b) [] [] (out-diff a b) (ap (option_map (λ _. [])) (index_sort_is a s e left)) HaveSortsIn.no_terms listed no_argument
     taken t s (HasSortIn.reading a u i e is index inner) listed =
-        by_level l (term.Read a u) (Term-F.Read a u) (out-read a u)
-        (subst (IsLayerListed l) (out-read a u) (listed (term.Read a u) (IsPart.itself (term.Read a u))),
-         subst (λ o. FitPlaces l (option_map (λ sort. sort ∷ []) o) (u ∷ [])) (sym (index_sort_is a i s is)) (suits u i inner, tt))
+        by_level l (term.Read a u) (Term-F.Read a u) (out-read a u) (
+          subst (IsLayerListed l) (out-read a u) (listed (term.Read a u) (IsPart.itself (term.Read a u))),
+          subst (λ o. FitPlaces l (option_map (λ sort. sort ∷ []) o) (u ∷ [])) (sym (index_sort_is a i s is)) (suits u i inner, tt),
+        )
         (taken u i inner (λ part is. listed part (IsPart.of_index part (term.Read a u) u a (out-read a u) is)))
     taken t s (HasSortIn.last a e is closed) listed =
-        by_level l (term.Default a) (Term-F.Default a) (out-default a)
-        (subst (IsLayerListed l) (out-default a) (listed (term.Default a) (IsPart.itself (term.Default a))),
-         subst (λ o. IsSome o) (sym (element_sort_is a plain.Int s is)) refl) tt
+        by_level l (term.Default a) (Term-F.Default a) (out-default a) (
+          subst (IsLayerListed l) (out-default a) (listed (term.Default a) (IsPart.itself (term.Default a))),
+          subst (λ o. IsSome o) (sym (element_sort_is a plain.Int s is)) refl,
+        ) tt
 
     one_taken : (ts : List Term) (ss : List Plain) → HaveSortsIn g scope ts ss
         → ((part v : Term) → Contains ts v → IsPart part v → IsLayerListed l (out-Term part)) → (u : Term) → Contains ts u → IsTermInForm l u
