@@ -15,10 +15,10 @@ abbrev pub keyword_in : Sexpr → Option (List ℕ)
 keyword_in (tree.Keyword text) = Some text
 keyword_in other = None
 
-abbrev trees_of : {n : _} → Row_of-Sexpr n → List Sexpr
+abbrev pub trees_of : {n : _} → Row_of-Sexpr n → List Sexpr
 trees_of end_of-Sexpr = []
 trees_of (more_of-Sexpr t row) = t ∷ trees_of row
 
-unfoldable pub list_in : Sexpr → Option (List Sexpr)
+abbrev pub list_in : Sexpr → Option (List Sexpr)
 list_in (tree.List' n row) = Some (trees_of row)
 list_in other = None

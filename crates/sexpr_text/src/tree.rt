@@ -57,19 +57,14 @@ impl Sexpr {
     }
 
     /// The trees of a list, in their order; nothing of another tree.
-    #[tactic(auto, using(crate::proofs::ListTrees::list_laws))]
+    #[tactic(auto, using(crate::proofs::ListTrees::list_in_list))]
     pub fn as_list(&self) -> Option<&[Sexpr]>
         ensures { option_copied result ≡ list_in self.now }
     {
-        match self {
-            Sexpr::List(trees) => Some(trees.as_slice()),
-            Sexpr::Numeral(_)
-            | Sexpr::Decimal(_)
-            | Sexpr::Hex(_)
-            | Sexpr::Binary(_)
-            | Sexpr::Str(_)
-            | Sexpr::Symbol(_)
-            | Sexpr::Keyword(_) => None,
+        if let Sexpr::List(trees) = self {
+            Some(trees.as_slice())
+        } else {
+            None
         }
     }
 }
