@@ -33,9 +33,13 @@ depth_of (meaning.Formula f) = depth_of_formula f
 depth_of (meaning.Term s t) = depth_of_term t
 depth_of (meaning.Array i e a) = depth_of_array a
 
+-- How deep a term may be (this project's own limit).
+abbrev pub depth_limit : ℕ
+depth_limit = 1000
+
 -- What is too deep is refused.
 abbrev pub shallow : Meaning → Result Meaning FaultKind
-shallow m = if nat_le (depth_of m) 1000 then Ok m else Err TooDeep
+shallow m = if nat_le (depth_of m) depth_limit then Ok m else Err TooDeep
 
 abbrev pub variables_of : Meaning → ℕ
 variables_of (meaning.Formula f) = variables_in f

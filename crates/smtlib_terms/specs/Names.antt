@@ -1,5 +1,6 @@
 use Rattle.std.specs.Prelude.{ℕ, ◌+◌, Bool, true, false, ◌&&◌, ◌==◌, List, [], ◌∷◌, codes, Option, None, Some, Result, Ok, Err, if◌then◌else◌}
 use Rattle.std.specs.List.{position}
+use Rattle.std.specs.Option.{option_map_or}
 use Rattle.mbqi_values.specs.declared.fault.FaultKind.{FaultKind}
 use Rattle.mbqi_values.specs.declared.fault.FaultKind.TheVariants.{BadForm, Unsupported, UnknownName}
 use Rattle.mbqi_terms.specs.declared.script.Function.{Function}
@@ -9,6 +10,7 @@ use Rattle.mbqi_terms.specs.declared.sort.Sort.{Sort}
 use Rattle.mbqi_terms.specs.declared.sort.Sort.TheVariants as sort
 use Rattle.sexpr_text.specs.declared.tree.Sexpr.{Sexpr, Row_of-Sexpr, end_of-Sexpr, more_of-Sexpr}
 use Rattle.sexpr_text.specs.declared.tree.Sexpr.TheVariants as tree
+use Rattle.sexpr_text.specs.Trees.{symbol_in}
 use Rattle.smtlib_terms.specs.declared.meaning.Bound.{Bound}
 use Rattle.smtlib_terms.specs.declared.meaning.Meaning.{Meaning}
 use Rattle.smtlib_terms.specs.declared.names.Binding.{Binding}
@@ -74,8 +76,7 @@ sort_named sorts name =
     else found_sort (place_of name sorts))
 
 abbrev pub is_symbol : List ℕ → Sexpr → Bool
-is_symbol name (tree.Symbol text) = is_text text name
-is_symbol name other = false
+is_symbol name t = option_map_or (λ text. is_text text name) (symbol_in t) false
 
 -- The sort that a tree names (SMT-LIB 2.6, section 3.5).
 unfoldable mutual

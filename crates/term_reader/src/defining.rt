@@ -3,7 +3,7 @@
 ghost use Rattle.std.specs.Prelude.{◌≡◌, [], false, Ok, IfErr, OnOk};
 ghost use Rattle.smtlib_terms.specs.Answers.{Answers, Declares, IsFault};
 ghost use Rattle.smtlib_terms.specs.Declaring.{arguments, declarable, definition_read, formula_read, is_function, macro_defined, names_of, opaque_from, reader_of};
-ghost use Rattle.smtlib_terms.specs.Reading.{is_list, meant_by, trees_in};
+ghost use Rattle.smtlib_terms.specs.Reading.{meant_by, trees_in};
 ghost use Rattle.operator_arguments.specs.Measured.{Means, meaning_of};
 ghost use Rattle.term_reader.specs.Defining.{body_meant, definition_checked, definition_parts, is_definition, macro_described, macro_read, may_define};
 
@@ -17,7 +17,7 @@ use sexpr_text::{Sexpr, copy_tree};
 use smtlib_names::binders::parameters;
 use smtlib_names::names::Names;
 use smtlib_names::sorts::sort_of_tree;
-use smtlib_names::trees::{each_is_binder, is_some_symbol, is_symbol, text_of, trees_in};
+use smtlib_names::trees::{each_is_binder, is_list, is_some_symbol, is_symbol, text_of, trees_in};
 use smtlib_terms::names::Macro;
 use smtlib_terms::refused;
 use smtlib_terms::word::is_reserved;
@@ -84,22 +84,6 @@ fn check_macro(alloc: Global, names: &Names, definition: &Macro) -> Result<(), R
 {
     let body = body_meaning(alloc, names, definition)?;
     may_define(names, definition, body.sort())
-}
-
-/// Whether a tree is a list.
-fn is_list(tree: &Sexpr) -> bool
-    ensures { result ≡ is_list tree.now }
-{
-    match tree {
-        Sexpr::List(_) => true,
-        Sexpr::Numeral(_)
-        | Sexpr::Decimal(_)
-        | Sexpr::Hex(_)
-        | Sexpr::Binary(_)
-        | Sexpr::Str(_)
-        | Sexpr::Symbol(_)
-        | Sexpr::Keyword(_) => false,
-    }
 }
 
 /// The macro of a definition of this name.
