@@ -5,6 +5,7 @@ use Rattle.mbqi_values.specs.declared.fault.FaultKind.{FaultKind}
 use Rattle.mbqi_values.specs.declared.fault.FaultKind.TheVariants.{NotDifference, OffsetTooWide}
 use Rattle.mbqi_terms.specs.declared.term.Term.{Term, more_of-Term, end_of-Term}
 use Rattle.mbqi_terms.specs.declared.term.Term.TheVariants as term
+use Rattle.mbqi_terms.specs.Limits.{is_within}
 
 -- An integer term of the profile: at most one term that is neither a numeral nor a sum, and a whole number.
 pub record Sum : Type 0 where
