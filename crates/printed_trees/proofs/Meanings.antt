@@ -23,7 +23,7 @@ use Rattle.mbqi_terms.specs.Varies.{varies}
 use Rattle.smtlib_terms.specs.Names.{◌>>=◌}
 use Rattle.smtlib_terms.specs.Number.{Sum, plus_number, sum_of, sum_of_terms, summed}
 use Rattle.smtlib_terms.specs.Operators.{addition, as_plain, constant, defaulting, integer_meant, selection, storing, term_meant, unbound}
-use Rattle.mbqi_terms.specs.HasSort.{AreArraysIn, HasSortIn, HaveSortsIn, IsIndexSort}
+use Rattle.mbqi_terms.specs.HasSort.{AreArraysIn, HasSortIn, HaveSortsIn, IsIndexSort, IsNoTruth}
 use Rattle.smtlib_terms.specs.InForm.{AreArrays, HasSort, HaveSorts}
 use Rattle.printed_trees.proofs.Depths.{meant_sort}
 use Rattle.printed_trees.proofs.ReadNames.{own_plain, own_sort}

@@ -1,5 +1,5 @@
 -- The S-expression of a term or array term in form means it.
-use Rattle.std.proofs.Common.{◌≡◌, ◌≤◌, ℕ, List, [], ◌∷◌, map, Option, Result, Ok, refl, ap, ◌∙◌, arith, length}
+use Rattle.std.proofs.Common.{◌≡◌, ◌≤◌, ℕ, List, [], ◌∷◌, map, Option, Result, Ok, refl, ap, ◌∙◌, arith, length, subst, Bool}
 use Rattle.std.specs.Prelude.{codes}
 use Rattle.mbqi_values.specs.declared.fault.FaultKind.{FaultKind}
 use Rattle.mbqi_terms.specs.declared.formula.Formula.TheVariants as formula
@@ -30,7 +30,7 @@ use Rattle.smtlib_terms.specs.Operators.{applied, constant, meant, term_meant}
 use Rattle.smtlib_terms.specs.Reading.{Constant, Mapped, head_of, part_of, parts_read, side, values_read}
 use Rattle.measured_terms.proofs.ArrayLaws as array_measure
 use Rattle.measured_terms.proofs.TermLaws as term_measure
-use Rattle.mbqi_terms.specs.HasSort.{AreArraysIn, HasSortIn, HaveSortsIn, IsArrayIn, IsDeclared}
+use Rattle.mbqi_terms.specs.HasSort.{AreArraysIn, HasSortIn, HaveSortsIn, IsArrayIn, IsDeclared, IsIndexSort, IsNoTruth}
 use Rattle.mbqi_terms.specs.InForm.{plain_lists}
 use Rattle.smtlib_terms.specs.InForm.{AreArrays, HasSort, HaveSorts, IsArray}
 use Rattle.printed_trees.specs.Names.{AreSmall, AreToldApart, bindings_of, signature_of}

@@ -1,5 +1,5 @@
 -- A worked row: a script in form, with a label that is a reserved word.
-use Rattle.std.proofs.Common.{◌≡◌, ◌≤◌, ℕ, zero, suc, true, List, [], ◌∷◌, Some, slice_get, codes, refl, sym, ◌∙◌, arith, length}
+use Rattle.std.proofs.Common.{◌≡◌, ◌≤◌, ℕ, zero, suc, true, List, [], ◌∷◌, Some, slice_get, codes, refl, sym, ◌∙◌, arith, length, ap}
 use Rattle.std.specs.List.{list_all}
 use Rattle.std.proofs.lemmas.List.Elements.{All-from_recursion}
 use Rattle.mbqi_terms.specs.Distinct.{AreDistinct}
