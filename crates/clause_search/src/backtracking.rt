@@ -7,8 +7,7 @@ ghost use Rattle.mbqi_values.specs.Clauses.{all_true, AreBelow};
 
 use crate::choice::{free_lit, shortest_open};
 use crate::resolvent::{mentions, resolvent};
-use crate::{LitLists, Lits};
-use mbqi_values::{Lit, Truths};
+use mbqi_values::{Lit, LitLists, Lits, Truths};
 use std::alloc::{AllocError, Global};
 
 /// What the search answers.

@@ -3,7 +3,7 @@ ghost use Rattle.std.specs.Prelude.{◌<◌, All, IfOk, OnOk};
 ghost use Rattle.mbqi_values.specs.Clauses.{AreBelow};
 
 use super::*;
-use mbqi_values::Lit;
+use mbqi_values::{Lit, LitLists, Lits};
 use std::alloc::{AllocError, Global};
 use std::test::Fail;
 

@@ -6,8 +6,7 @@ ghost use Rattle.function_model.specs.Lookup.{greatest_up_to, projected, is_at, 
 ghost use Rattle.mbqi_values.specs.Value.{is_same};
 
 use crate::model::{Row, Table};
-use mbqi_terms::Values;
-use mbqi_values::Value;
+use mbqi_values::{Value, Values};
 use std::cmp::Ordering;
 
 impl Table {

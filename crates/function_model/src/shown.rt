@@ -7,8 +7,7 @@ ghost use Rattle.function_model.specs.Lookup.{is_declared, table_where};
 ghost use Rattle.function_model.specs.Shown.{is_shown, shown_of};
 
 use crate::model::{FunctionModel, Row, Rows, Table, TableName, Tables, ValueLists};
-use mbqi_terms::Values;
-use mbqi_values::Sizes;
+use mbqi_values::{Sizes, Values};
 use std::alloc::{AllocError, Global};
 
 impl FunctionModel {

@@ -12,9 +12,8 @@ ghost use Rattle.ground_form.specs.Profile.{IsClause, IsLiteral, IsAtom, IsGroun
 
 use crate::atoms::{AtomTable, GroundAtom};
 use crate::pool::Pool;
-use clause_search::{LitLists, Lits};
 use mbqi_terms::{Formula, Function, InstanceLine, Symbol, Term, TermIds};
-use mbqi_values::Lit;
+use mbqi_values::{Lit, LitLists, Lits};
 use std::alloc::{AllocError, Global};
 
 /// The clauses of the formulas of instances over the pool of the functions, one for each instance in order. Their atoms are numbered

@@ -6,8 +6,8 @@ ghost use Rattle.smtlib_printer.specs.Text.{list_text, spaced_rest};
 
 use function_model::{FunctionModel, Row, Table};
 use itoa::Buffer;
-use mbqi_terms::{Function, Script, Values};
-use mbqi_values::{Text, Value};
+use mbqi_terms::{Function, Script};
+use mbqi_values::{Text, Value, Values};
 use smtlib_printer::{write_name, write_number, write_truth};
 use std::alloc::AllocError;
 

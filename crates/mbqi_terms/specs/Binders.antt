@@ -27,7 +27,7 @@ formula_variables (Formula-F.Exists binders f) = length binders + f
 unfoldable pub variables_in : Formula → ℕ
 variables_in f = fold-Formula ℕ formula_variables f
 
--- Whether a formula has a quantifier.
+-- Whether its quantifiers bind a variable. In a formula in form each quantifier does.
 abbrev pub is_quantified : Formula → Bool
 is_quantified f = nat_lt 0 (variables_in f)
 
@@ -75,15 +75,16 @@ universals_at f = fold-Formula (Bool → List Binder) universal_layer f
 abbrev pub existentials_at : Formula → Bool → List Binder
 existentials_at f b = universals_at f (not b)
 
--- The Skolem symbols of the existential variables of an assertion at a polarity, in order of the text. One has the variable's sort, and an
--- argument for each universal variable whose quantifier encloses that of its own, outermost first; `outer` has the sorts of these.
-abbrev pub sorts_of : List Binder → List Sort
-sorts_of binders = map (λ (binder : Binder). binder.sort) binders
+abbrev pub binder_sorts : List Binder → List Sort
+binder_sorts binders = map (λ (binder : Binder). binder.sort) binders
 
+-- The Skolem symbols of existential variables below universal ones of these sorts, outermost first.
 abbrev pub skolem_sorts : ℕ → List Sort → List Binder → List SkolemSort
 skolem_sorts assertion outer binders =
     map (λ (binder : Binder). record { assertion = assertion; place = binder.place; args = outer; result = binder.sort }) binders
 
+-- The Skolem symbols of the existential variables of an assertion at a polarity, in order of the text. One has the variable's sort, and an
+-- argument for each universal variable whose quantifier encloses that of its own, outermost first; `outer` has the sorts of these.
 abbrev pub skolem_layer : ℕ → Formula-F (Bool → List Sort → List SkolemSort) → Bool → List Sort → List SkolemSort
 skolem_layer assertion (Formula-F.Truth t) b outer = []
 skolem_layer assertion (Formula-F.Atom t) b outer = []
@@ -96,9 +97,9 @@ skolem_layer assertion (Formula-F.Any parts) b outer = flat_map (λ (part : Bool
 skolem_layer assertion (Formula-F.Iff f g) b outer = []
 skolem_layer assertion (Formula-F.Choose c f g) b outer = f b outer ++ g b outer
 skolem_layer assertion (Formula-F.Forall binders f) b outer =
-    if b then f b (outer ++ sorts_of binders) else skolem_sorts assertion outer binders ++ f b outer
+    if b then f b (outer ++ binder_sorts binders) else skolem_sorts assertion outer binders ++ f b outer
 skolem_layer assertion (Formula-F.Exists binders f) b outer =
-    if b then skolem_sorts assertion outer binders ++ f b outer else f b (outer ++ sorts_of binders)
+    if b then skolem_sorts assertion outer binders ++ f b outer else f b (outer ++ binder_sorts binders)
 
 unfoldable pub skolems_at : ℕ → Formula → Bool → List Sort → List SkolemSort
 skolems_at assertion f = fold-Formula (Bool → List Sort → List SkolemSort) (skolem_layer assertion) f

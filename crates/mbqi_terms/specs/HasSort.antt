@@ -1,5 +1,5 @@
--- Which terms, array terms and formulas without quantifiers are in form (this project's own profile of SMT-LIB 2.6, section 3.6): each sort,
--- symbol and variable that they name is there, arguments have their number and sorts, and numbers are within their limits.
+-- Which terms, array terms and formulas without quantifiers have their sorts (this project's own profile of SMT-LIB 2.6, section 3.6): each
+-- sort, symbol and variable that they name is there, arguments have their number and sorts, and numbers are within given limits.
 use Rattle.std.specs.Prelude.{◌≡◌, ◌≢◌, ◌<◌, ℕ, ◌==◌, ℤ, pos, Bool, true, false, List, [], ◌∷◌, length, map, replicate, Option, None, Some, slice_get, if◌then◌else◌}
 use Rattle.mbqi_terms.specs.declared.arrays.SkolemSort.{SkolemSort}
 use Rattle.mbqi_terms.specs.declared.formula.Formula.{Formula}
@@ -28,8 +28,8 @@ use Rattle.mbqi_terms.specs.Varies.{varies}
 pub record Setting : Type 0 where
   pub sorts : ℕ
   pub lists : Lists
-  pub is_numeral : ℤ → Bool
-  pub is_offset : ℤ → Bool
+  pub numerals : ℤ → Bool
+  pub offsets : ℤ → Bool
   pub hidden : Bool
 
 -- Among so many declared sorts: Bool, Int, or one of them.
@@ -71,17 +71,17 @@ pub data IsPointwise (l : Lists) : MapOp → List Plain → Plain → Type 0 whe
   negation : IsPointwise l op.Not (plain.Truth ∷ []) plain.Truth
 
 mutual
-  -- A term of a sort, in the scope of binders. No variable stands in an array term that is no name.
+  -- A term of a sort, in the scope of binders.
   pub data HasSortIn (g : Setting) (scope : List Binder) : Term → Plain → Type 0 where
-    number : (n : ℤ) → g.is_numeral n ≡ true → HasSortIn g scope (term.Num n) plain.Int
-    sum : (t : Term) (n : ℤ) → HasSortIn g scope t plain.Int → IsBase (out-Term t) → n ≢ pos 0 → g.is_offset n ≡ true → HasSortIn g scope (term.Plus t n) plain.Int
+    number : (n : ℤ) → g.numerals n ≡ true → HasSortIn g scope (term.Num n) plain.Int
+    sum : (t : Term) (n : ℤ) → HasSortIn g scope t plain.Int → IsBase (out-Term t) → n ≢ pos 0 → g.offsets n ≡ true → HasSortIn g scope (term.Plus t n) plain.Int
     variable : (place : ℕ) (s : Plain) → IsIndexSort g.sorts s → sort_at scope place ≡ Some (plain_sort s) → HasSortIn g scope (term.Var place) s
     truth : (b : Bool) → HasSortIn g scope (term.Truth b) plain.Truth
     application : (f : ℕ) (ts : List Term) (args : List Plain) (s : Plain) → IsDeclared g.lists f (map plain_sort args) (plain_sort s) → HaveSortsIn g scope ts args → HasSortIn g scope (term.Apply (symbol.Declared f) ts) s
     skolem : (assertion place : ℕ) (ts : List Term) (args : List Plain) (s : Plain) → g.hidden ≡ true → IsSkolem g.lists assertion place (map plain_sort args) (plain_sort s) → HaveSortsIn g scope ts args → HasSortIn g scope (term.Apply (symbol.Skolem assertion place) ts) s
     seed : (s : ℕ) → g.hidden ≡ true → s < g.sorts → HasSortIn g scope (term.Apply (symbol.Seed s) []) (plain.Elem s)
     far : g.hidden ≡ true → HasSortIn g scope (term.Apply symbol.Far []) plain.Int
-    difference : (a b : ArrayTerm) (i e : Plain) → g.hidden ≡ true → IsIndexSort g.sorts i → IsArrayIn g scope a i e → IsArrayIn g scope b i e → HasSortIn g scope (term.Apply (symbol.Diff a b) []) i
+    differing : (a b : ArrayTerm) (i e : Plain) → g.hidden ≡ true → IsIndexSort g.sorts i → IsArrayIn g scope a i e → IsArrayIn g scope b i e → HasSortIn g scope (term.Apply (symbol.Diff a b) []) i
     reading : (a : ArrayTerm) (t : Term) (i e : Plain) → IsArrayIn g scope a i e → IsIndexSort g.sorts i → HasSortIn g scope t i → HasSortIn g scope (term.Read a t) e
     last : (a : ArrayTerm) (e : Plain) → IsArrayIn g scope a plain.Int e → varies a ≡ false → HasSortIn g scope (term.Default a) e
 
@@ -90,7 +90,7 @@ mutual
     no_terms : HaveSortsIn g scope [] []
     more_terms : (t : Term) (ts : List Term) (s : Plain) (ss : List Plain) → IsIndexSort g.sorts s → HasSortIn g scope t s → HaveSortsIn g scope ts ss → HaveSortsIn g scope (t ∷ ts) (s ∷ ss)
 
-  -- An array term with its index and element sorts.
+  -- An array term with its index and element sorts. No variable stands in one that is no name.
   pub data IsArrayIn (g : Setting) (scope : List Binder) : ArrayTerm → Plain → Plain → Type 0 where
     name : (f : ℕ) (i e : Plain) → IsDeclared g.lists f [] (sort.Array i e) → IsArrayIn g scope (array.Name f) i e
     store : (a : ArrayTerm) (t v : Term) (i e : Plain) → IsArrayIn g scope a i e → IsIndexSort g.sorts i → HasSortIn g scope t i → HasSortIn g scope v e → varies (array.Store a t v) ≡ false → IsArrayIn g scope (array.Store a t v) i e

@@ -1,5 +1,5 @@
 -- Which scripts and rules are in form (this project's own profile of SMT-LIB 2.6, sections 3.6 and 4.2).
-use Rattle.std.specs.Prelude.{◌≡◌, ◌<◌, ◌≤◌, ℕ, ◌+◌, Bool, true, false, List, [], ◌∷◌, ◌++◌, length, map, Option, Some, slice_get, All, IfSome}
+use Rattle.std.specs.Prelude.{◌≡◌, ◌<◌, ◌≤◌, ℕ, ◌+◌, Bool, true, false, List, [], ◌∷◌, ◌++◌, length, map, ℤ, Option, Some, slice_get, All, IfSome}
 use Rattle.mbqi_terms.specs.declared.formula.Formula.{Formula}
 use Rattle.mbqi_terms.specs.declared.formula.Formula.TheVariants as formula
 use Rattle.mbqi_terms.specs.declared.rule.Rule.{Rule}
@@ -18,7 +18,7 @@ use Rattle.mbqi_terms.specs.Binders.{variables_in}
 use Rattle.mbqi_terms.specs.Depth.{depth_of_formula}
 use Rattle.mbqi_terms.specs.Distinct.{AreDistinct}
 use Rattle.mbqi_terms.specs.HasSort.{HasSortIn, IsArrayIn, IsAtomIn, IsIndexSort, IsMatrix, IsPlainSort, Setting}
-use Rattle.mbqi_terms.specs.Limits.{is_moderate, is_numeral, is_offset}
+use Rattle.mbqi_terms.specs.Limits.{depth_limit, is_numeral, is_offset}
 use Rattle.mbqi_terms.specs.ScriptLists.{lists_of}
 use Rattle.mbqi_terms.specs.Sort.{is_array}
 
@@ -30,17 +30,28 @@ abbrev pub script_setting : Script → Setting
 script_setting script = record {
   sorts = length script.sorts;
   lists = plain_lists script.functions;
-  is_numeral = is_numeral;
-  is_offset = is_offset;
+  numerals = is_numeral;
+  offsets = is_offset;
   hidden = false;
 }
 
--- Rules have hidden names besides, and refutations wider numbers too.
-abbrev pub rule_setting : Script → Setting
-rule_setting script = record (script_setting script) { lists = lists_of script; hidden = true }
+-- Rules and ground terms have hidden names besides, over all lists of the script.
+abbrev pub hidden_setting : (ℤ → Bool) → (ℤ → Bool) → Script → Setting
+hidden_setting numerals offsets script =
+    record { sorts = length script.sorts; lists = lists_of script; numerals = numerals; offsets = offsets; hidden = true }
 
-abbrev pub ground_setting : Script → Setting
-ground_setting script = record (rule_setting script) { is_numeral = is_moderate; is_offset = is_moderate }
+abbrev pub rule_setting : Script → Setting
+rule_setting = hidden_setting is_numeral is_offset
+
+-- The terms that a refutation or a ground decision has: without variables, with whatever numbers where no call limits them.
+abbrev pub free_setting : Script → Setting
+free_setting = hidden_setting (λ n. true) (λ n. true)
+
+abbrev pub IsGroundTerm : Script → Plain → Term → Type 0
+IsGroundTerm script s t = HasSortIn (free_setting script) [] t s
+
+abbrev pub IsGroundFormula : Script → Formula → Type 0
+IsGroundFormula script f = IsMatrix (free_setting script) [] f
 
 -- The sort of a quantified variable or an argument: Int, or one of so many declared sorts.
 abbrev pub IsVariableSort : ℕ → Sort → Type 0
@@ -106,7 +117,7 @@ pub record AreNamedBy (IsName : List ℕ → Type 0) (script : Script) : Type 0 
 -- An assertion without free variables, within the limit of depth, with a label that may stand.
 pub record IsAssertedBy (IsLabel : List ℕ → Type 0) (script : Script) (a : Assertion) : Type 0 where
   pub formula : IsPlaced (script_setting script) [] 0 a.formula
-  pub depth : depth_of_formula a.formula ≤ 1000
+  pub depth : depth_of_formula a.formula ≤ depth_limit
   pub label : IfSome a.label IsLabel
 
 -- No two assertions have one label.

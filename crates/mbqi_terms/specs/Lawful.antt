@@ -27,7 +27,8 @@ IsOfSort (sort.Elem s) (Truth t) = ⊥
 IsOfSort (sort.Array i e) v = ⊥
 
 -- The values of the terms that stand there are as the terms ask: each has its sort by the lists, numerals and truths have their own value, a sum has
--- that of its term plus its number, and applications of one symbol, or reads of one array, to equal values have equal values.
+-- that of its term plus its number, and applications of one symbol, or reads of one array, to equal values have equal values. The terms
+-- that stand there are closed under parts.
 pub record IsPlainlyLawful (l : Lists) (Stands : Term → Type 0) (m : Meanings) : Type 0 where
   pub sorts : (t : Term) (s : Sort) → Stands t → sort_of_term l t ≡ Some s → IsOfSort s (m.value t)
   pub numbers : (t : Term) (n : ℤ) → Stands t → out-Term t ≡ Term-F.Num n → m.value t ≡ Num n

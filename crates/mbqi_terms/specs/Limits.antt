@@ -6,13 +6,13 @@ abbrev pub is_within : ℕ → ℤ → Bool
 is_within limit (pos n) = nat_le n limit
 is_within limit (negsuc n) = nat_lt n limit
 
--- A numeral of a script, and the number that a term of a script is added to.
+-- A numeral of a script; the number that is added to a term of a script.
 abbrev pub is_numeral : ℤ → Bool
 is_numeral n = is_within (2 ^ 63 - 1) n
 
 abbrev pub is_offset : ℤ → Bool
 is_offset n = is_within (2 ^ 59) n
 
--- A number of a model or a refutation.
-abbrev pub is_moderate : ℤ → Bool
-is_moderate n = is_within (2 ^ 124 - 1) n
+-- How deep a formula or a term of a script may be.
+abbrev pub depth_limit : ℕ
+depth_limit = 1000

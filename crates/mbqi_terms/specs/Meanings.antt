@@ -1,5 +1,5 @@
 -- What terms are worth and which formulas are true under a valuation (SMT-LIB 2.6, theory Core).
-use Rattle.std.specs.Prelude.{Bool, false, not, List, [], ◌∷◌, if◌then◌else◌}
+use Rattle.std.specs.Prelude.{◌≡◌, Bool, false, not, List, [], ◌∷◌, length, if◌then◌else◌}
 use Rattle.std.specs.List.{list_all, list_any}
 use Rattle.std.specs.Ordering.{is_le}
 use Rattle.mbqi_values.specs.Value.{is_same, is_true, rank_of}
@@ -12,6 +12,7 @@ use Rattle.mbqi_terms.specs.declared.formula.Formula.TheOpen.{Formula-F}
 use Rattle.mbqi_terms.specs.declared.instance.Valuation.{Valuation}
 use Rattle.mbqi_terms.specs.declared.term.ArrayTerm.{ArrayTerm}
 use Rattle.mbqi_terms.specs.declared.term.Term.{Term}
+use Rattle.mbqi_terms.specs.Distinct.{AreDistinct}
 use Rattle.mbqi_terms.specs.SameTree.{same_pair, same_term}
 
 -- What a valuation gives: a value for each term, and a truth for each pair of arrays.
@@ -55,3 +56,10 @@ meanings_of v = record {
   value = λ t. value_by v.terms v.values t;
   same = λ a b. same_by v.pairs v.same (record { left = a; right = b });
 }
+
+-- Each term and each pair has its own value or truth, and none stands twice.
+pub record IsValuation (v : Valuation) : Type 0 where
+  pub values : length v.values ≡ length v.terms
+  pub truths : length v.same ≡ length v.pairs
+  pub terms_differ : AreDistinct v.terms
+  pub pairs_differ : AreDistinct v.pairs

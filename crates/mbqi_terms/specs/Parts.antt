@@ -32,7 +32,7 @@ terms_layer (Formula-F.Exists binders f) = f
 unfoldable pub terms_in : Formula → List Term
 terms_in f = fold-Formula (List Term) terms_layer f
 
--- The pairs of a formula's equalities of arrays.
+-- The pairs of a formula's equalities of arrays, which have a truth. The pairs of difference indices in its terms have none of their own.
 abbrev pub pairs_layer : Formula-F (List ArrayPair) → List ArrayPair
 pairs_layer (Formula-F.Truth t) = []
 pairs_layer (Formula-F.Atom t) = []
@@ -74,3 +74,9 @@ mutual
 pub data IsWithinFormula (part : Term) (f : Formula) : Type 0 where
   of_atom : (t : Term) → Contains (terms_in f) t → IsWithin part t → IsWithinFormula part f
   of_equality : (pair : ArrayPair) (side : ArrayTerm) → Contains (pairs_in f) pair → Contains (pair.left ∷ pair.right ∷ []) side → IsWithinArray part side → IsWithinFormula part f
+
+-- The term is one of these or stands anywhere in them or in these formulas: what the terms of a refutation are, of its steps' terms and
+-- formulas.
+pub data IsAmong (part : Term) (ts : List Term) (fs : List Formula) : Type 0 where
+  of_term : (t : Term) → Contains ts t → IsWithin part t → IsAmong part ts fs
+  of_formula : (f : Formula) → Contains fs f → IsWithinFormula part f → IsAmong part ts fs

@@ -28,56 +28,60 @@ skolems_from k (assertion ∷ assertions) = skolems_at k assertion.formula true 
 abbrev pub skolems_of : Script → List SkolemSort
 skolems_of script = skolems_from 0 script.assertions
 
--- Arrays that were found at several places, in order.
-abbrev pub nothing : Arrays
-nothing = record { terms = []; atoms = []; defaults = [] }
+abbrev pub no_arrays : Arrays
+no_arrays = record { terms = []; atoms = []; defaults = [] }
 
-abbrev pub and_then : Arrays → Arrays → Arrays
-and_then a b = record { terms = a.terms ++ b.terms; atoms = a.atoms ++ b.atoms; defaults = a.defaults ++ b.defaults }
+-- Arrays that were found at two places, in order, and at several.
+abbrev pub joined : Arrays → Arrays → Arrays
+joined a b = record { terms = a.terms ++ b.terms; atoms = a.atoms ++ b.atoms; defaults = a.defaults ++ b.defaults }
 
-abbrev pub in_all : List Arrays → Arrays
-in_all found = fold and_then nothing found
+abbrev pub all_joined : List Arrays → Arrays
+all_joined found = fold joined no_arrays found
 
 -- A tree beside the arrays that stand anywhere in it, inner ones first: also in the indices and values of array terms.
 pub record WithArrays (X : Type 0) : Type 0 where
   pub tree : X
   pub found : Arrays
 
-abbrev pub trees : {X : Type 0} → List (WithArrays X) → List X
-trees {X} parts = map (λ (part : WithArrays X). part.tree) parts
+abbrev pub trees_in : {X : Type 0} → List (WithArrays X) → List X
+trees_in {X} parts = map (λ (part : WithArrays X). part.tree) parts
 
 abbrev pub found_in : {X : Type 0} → List (WithArrays X) → Arrays
-found_in {X} parts = in_all (map (λ (part : WithArrays X). part.found) parts)
+found_in {X} parts = all_joined (map (λ (part : WithArrays X). part.found) parts)
 
 -- The array term itself comes behind those in it.
-abbrev pub listed : ArrayTerm → Arrays → WithArrays ArrayTerm
-listed a inner = record { tree = a; found = and_then inner (record { terms = a ∷ []; atoms = []; defaults = [] }) }
+abbrev pub with_itself : ArrayTerm → Arrays → WithArrays ArrayTerm
+with_itself a inner = record { tree = a; found = joined inner (record { terms = a ∷ []; atoms = []; defaults = [] }) }
 
 abbrev pub array_arrays : ArrayTerm-F (WithArrays ArrayTerm) (WithArrays Symbol) (WithArrays Term) → WithArrays ArrayTerm
-array_arrays (ArrayTerm-F.Name f) = listed (roll-ArrayTerm (ArrayTerm-F.Name f)) nothing
+array_arrays (ArrayTerm-F.Name f) = with_itself (roll-ArrayTerm (ArrayTerm-F.Name f)) no_arrays
 array_arrays (ArrayTerm-F.Store a i v) =
-    listed (roll-ArrayTerm (ArrayTerm-F.Store a.tree i.tree v.tree)) (and_then a.found (and_then i.found v.found))
-array_arrays (ArrayTerm-F.Const s v) = listed (roll-ArrayTerm (ArrayTerm-F.Const s v.tree)) v.found
-array_arrays (ArrayTerm-F.Map f parts) = listed (roll-ArrayTerm (ArrayTerm-F.Map f (trees parts))) (found_in parts)
+    with_itself (roll-ArrayTerm (ArrayTerm-F.Store a.tree i.tree v.tree)) (joined a.found (joined i.found v.found))
+array_arrays (ArrayTerm-F.Const s v) = with_itself (roll-ArrayTerm (ArrayTerm-F.Const s v.tree)) v.found
+array_arrays (ArrayTerm-F.Map f parts) = with_itself (roll-ArrayTerm (ArrayTerm-F.Map f (trees_in parts))) (found_in parts)
 
+-- The pair of a difference index is an equality that a store has to list.
 abbrev pub symbol_arrays : Symbol-F (WithArrays ArrayTerm) (WithArrays Symbol) (WithArrays Term) → WithArrays Symbol
-symbol_arrays (Symbol-F.Declared f) = record { tree = roll-Symbol (Symbol-F.Declared f); found = nothing }
-symbol_arrays (Symbol-F.Skolem assertion place) = record { tree = roll-Symbol (Symbol-F.Skolem assertion place); found = nothing }
-symbol_arrays (Symbol-F.Seed s) = record { tree = roll-Symbol (Symbol-F.Seed s); found = nothing }
-symbol_arrays Symbol-F.Far = record { tree = roll-Symbol Symbol-F.Far; found = nothing }
-symbol_arrays (Symbol-F.Diff a b) = record { tree = roll-Symbol (Symbol-F.Diff a.tree b.tree); found = and_then a.found b.found }
+symbol_arrays (Symbol-F.Declared f) = record { tree = roll-Symbol (Symbol-F.Declared f); found = no_arrays }
+symbol_arrays (Symbol-F.Skolem assertion place) = record { tree = roll-Symbol (Symbol-F.Skolem assertion place); found = no_arrays }
+symbol_arrays (Symbol-F.Seed s) = record { tree = roll-Symbol (Symbol-F.Seed s); found = no_arrays }
+symbol_arrays Symbol-F.Far = record { tree = roll-Symbol Symbol-F.Far; found = no_arrays }
+symbol_arrays (Symbol-F.Diff a b) = record {
+  tree = roll-Symbol (Symbol-F.Diff a.tree b.tree);
+  found = joined (joined a.found b.found) (record { terms = []; atoms = record { left = a.tree; right = b.tree } ∷ []; defaults = [] });
+}
 
 -- An array term under `default` is an array whose default is named, too.
 abbrev pub term_arrays : Term-F (WithArrays ArrayTerm) (WithArrays Symbol) (WithArrays Term) → WithArrays Term
-term_arrays (Term-F.Num n) = record { tree = roll-Term (Term-F.Num n); found = nothing }
+term_arrays (Term-F.Num n) = record { tree = roll-Term (Term-F.Num n); found = no_arrays }
 term_arrays (Term-F.Plus t n) = record { tree = roll-Term (Term-F.Plus t.tree n); found = t.found }
-term_arrays (Term-F.Var place) = record { tree = roll-Term (Term-F.Var place); found = nothing }
-term_arrays (Term-F.Truth b) = record { tree = roll-Term (Term-F.Truth b); found = nothing }
-term_arrays (Term-F.Apply f ts) = record { tree = roll-Term (Term-F.Apply f.tree (trees ts)); found = and_then f.found (found_in ts) }
-term_arrays (Term-F.Read a i) = record { tree = roll-Term (Term-F.Read a.tree i.tree); found = and_then a.found i.found }
+term_arrays (Term-F.Var place) = record { tree = roll-Term (Term-F.Var place); found = no_arrays }
+term_arrays (Term-F.Truth b) = record { tree = roll-Term (Term-F.Truth b); found = no_arrays }
+term_arrays (Term-F.Apply f ts) = record { tree = roll-Term (Term-F.Apply f.tree (trees_in ts)); found = joined f.found (found_in ts) }
+term_arrays (Term-F.Read a i) = record { tree = roll-Term (Term-F.Read a.tree i.tree); found = joined a.found i.found }
 term_arrays (Term-F.Default a) = record {
   tree = roll-Term (Term-F.Default a.tree);
-  found = and_then a.found (record { terms = []; atoms = []; defaults = a.tree ∷ [] });
+  found = joined a.found (record { terms = []; atoms = []; defaults = a.tree ∷ [] });
 }
 
 unfoldable pub arrays_in_term : Term → Arrays
@@ -90,17 +94,17 @@ arrays_in_array a =
 
 -- An equality of arrays is a pair.
 abbrev pub formula_arrays : Formula-F Arrays → Arrays
-formula_arrays (Formula-F.Truth b) = nothing
+formula_arrays (Formula-F.Truth b) = no_arrays
 formula_arrays (Formula-F.Atom t) = arrays_in_term t
-formula_arrays (Formula-F.Equal s t) = and_then (arrays_in_term s) (arrays_in_term t)
-formula_arrays (Formula-F.AtMost s t) = and_then (arrays_in_term s) (arrays_in_term t)
-formula_arrays (Formula-F.SameArray a b) = and_then (and_then (arrays_in_array a) (arrays_in_array b))
+formula_arrays (Formula-F.Equal s t) = joined (arrays_in_term s) (arrays_in_term t)
+formula_arrays (Formula-F.AtMost s t) = joined (arrays_in_term s) (arrays_in_term t)
+formula_arrays (Formula-F.SameArray a b) = joined (joined (arrays_in_array a) (arrays_in_array b))
     (record { terms = []; atoms = record { left = a; right = b } ∷ []; defaults = [] })
 formula_arrays (Formula-F.Not f) = f
-formula_arrays (Formula-F.All parts) = in_all parts
-formula_arrays (Formula-F.Any parts) = in_all parts
-formula_arrays (Formula-F.Iff f g) = and_then f g
-formula_arrays (Formula-F.Choose c f g) = and_then c (and_then f g)
+formula_arrays (Formula-F.All parts) = all_joined parts
+formula_arrays (Formula-F.Any parts) = all_joined parts
+formula_arrays (Formula-F.Iff f g) = joined f g
+formula_arrays (Formula-F.Choose c f g) = joined c (joined f g)
 formula_arrays (Formula-F.Forall binders f) = f
 formula_arrays (Formula-F.Exists binders f) = f
 
@@ -121,7 +125,7 @@ each_once a = record {
 
 -- The array terms, the equalities of arrays and the arrays under `default` of a script, each once, in order of first appearance.
 abbrev pub arrays_of : Script → Arrays
-arrays_of script = each_once (in_all (map (λ (assertion : Assertion). arrays_in assertion.formula) script.assertions))
+arrays_of script = each_once (all_joined (map (λ (assertion : Assertion). arrays_in assertion.formula) script.assertions))
 
 abbrev pub lists_of : Script → Lists
 lists_of script = record { functions = script.functions; skolems = skolems_of script; arrays = arrays_of script }

@@ -4,7 +4,6 @@ ghost use Rattle.std.specs.Slice.Iter.{iter_rest};
 
 use crate::lit::Lit;
 use crate::value::Value;
-
 use std::alloc::{AllocError, Global};
 use std::marker::Model;
 use std::slice;
