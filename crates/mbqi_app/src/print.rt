@@ -13,8 +13,8 @@ ghost use Rattle.smtlib_decls.specs.Means.{Refused};
 use crate::solve::FILE_LIMIT;
 use mbqi_edge::{FetchFault, Shelf, Sink, put_all};
 use mbqi_values::{ReadError, Status};
+use printed_script::printed_means_the_same;
 use script_text::write_script;
-use scripts_in_form::printed_means_the_same;
 use smtlib_decls::{one_script_or_refusal, read_text};
 use std::alloc::Global;
 

@@ -21,11 +21,12 @@ use Rattle.smtlib_terms.specs.Operators.{meant, term_meant}
 use Rattle.smtlib_terms.specs.Reading.{side, symbol}
 use Rattle.smtlib_terms.specs.Words.{is_reserved_word}
 use Rattle.smtlib_terms.proofs.TermTrees.{side-Symbol}
-use Rattle.printed_trees.specs.InForm.{IsDeclared, IsIndexSort, sort_at}
-use Rattle.printed_trees.specs.Means.{Means}
+use Rattle.mbqi_terms.specs.HasSort.{IsDeclared, IsIndexSort, sort_at}
+use Rattle.mbqi_terms.specs.InForm.{plain_lists}
 use Rattle.printed_trees.specs.Names.{AreSmall, AreToldApart, bindings_of, signature_of}
-use Rattle.printed_trees.specs.Trees.{function_name_tree, variable_tree}
 use Rattle.printed_trees.proofs.Scopes.{function_found, variable_found}
+use Rattle.printed_trees.specs.Means.{Means}
+use Rattle.printed_trees.specs.Trees.{function_name_tree, variable_tree}
 use Rattle.printed_trees.proofs.Words.{no_word}
 use Rattle.mbqi_terms.specs.Sort.{plain_sort, is_plain, is_sort}
 
@@ -79,7 +80,7 @@ name_alone script marks told scope next name free =
 
 -- a function without arguments
 pub constant_means : (script : Script) (marks : ℕ) (told : AreToldApart script marks) (scope : List Binder) (small : AreSmall scope) (next number : ℕ) (result : Sort) →
-    IsDeclared script number [] result → Means (function_name_tree script number) (signature_of script) (bindings_of marks scope) next (application number [] result)
+    IsDeclared (plain_lists script.functions) number [] result → Means (function_name_tree script number) (signature_of script) (bindings_of marks scope) next (application number [] result)
 constant_means script marks told scope small next number result d =
     let is = function_found script marks number d.function told d.there in
     ap (λ (o : Option Function). side (tree.Symbol (name_in o)) (signature_of script) (bindings_of marks scope) next) d.there
@@ -94,12 +95,12 @@ variable_symbol : (marks : ℕ) (script : Script) (scope : List Binder) (next pl
 variable_symbol zero script scope next place some = absurd (omega arith)
 variable_symbol (suc marks) script scope next place some = refl
 
-index_term : (script : Script) (s : Plain) (place : ℕ) → IsIndexSort script s → meaning.Term (plain_sort s) (term.Var place) ≡ term_meant s (term.Var place)
+index_term : (script : Script) (s : Plain) (place : ℕ) → IsIndexSort (length script.sorts) s → meaning.Term (plain_sort s) (term.Var place) ≡ term_meant s (term.Var place)
 index_term script plain.Truth place is = absurd is
 index_term script plain.Int place is = refl
 index_term script (plain.Elem s) place is = refl
 
-pub variable_means : (script : Script) (marks : ℕ) (told : AreToldApart script marks) (scope : List Binder) (small : AreSmall scope) (next place : ℕ) (s : Plain) → IsIndexSort script s → sort_at scope place ≡ Some (plain_sort s) →
+pub variable_means : (script : Script) (marks : ℕ) (told : AreToldApart script marks) (scope : List Binder) (small : AreSmall scope) (next place : ℕ) (s : Plain) → IsIndexSort (length script.sorts) s → sort_at scope place ≡ Some (plain_sort s) →
     Means (variable_tree marks place) (signature_of script) (bindings_of marks scope) next (term_meant s (term.Var place))
 variable_means script marks told scope small next place s index there =
     side-Symbol (variable_text marks place) (signature_of script) (bindings_of marks scope) next

@@ -1,5 +1,5 @@
 -- How numbers and truths read.
-use Rattle.std.proofs.Common.{◌≡◌, ◌<◌, ◌≤◌, ℕ, suc, ◌-◌, ◌^◌, ℤ, pos, negsuc, Bool, true, false, cond, leb, ltb, List, [], ◌∷◌, Result, Ok, Err, ap, ◌∙◌, arith}
+use Rattle.std.proofs.Common.{◌≡◌, ◌<◌, ◌≤◌, ℕ, suc, ◌-◌, ◌^◌, ℤ, pos, negsuc, Bool, true, false, cond, ltb, List, [], ◌∷◌, Result, Ok, Err, ap, ◌∙◌, arith}
 use Rattle.std.specs.Prelude.{codes, decimal}
 use Rattle.std.proofs.lemmas.Bool.Decides.{nat_tests}
 use Rattle.mbqi_values.specs.declared.fault.FaultKind.{FaultKind}
@@ -22,14 +22,9 @@ use Rattle.measured_terms.proofs.TermLaws.{depth-Num}
 use Rattle.printed_trees.specs.Means.{Means}
 use Rattle.printed_trees.specs.Trees.{number_tree, truth_tree}
 use Rattle.printed_trees.proofs.Decimals.{decimal_value}
-use Rattle.printed_trees.proofs.ReadParts.{le_true, one_read, word_means}
+use Rattle.smtlib_terms.proofs.Tests.{le_true, leb_le, ltb_lt}
+use Rattle.printed_trees.proofs.ReadParts.{one_read, word_means}
 use Rattle.printed_trees.proofs.Words.{minus_word}
-
-pub leb_le : (a b : ℕ) → leb a b ≡ true → a ≤ b
-leb_le a b e = grind (arith, nat_tests)
-
-pub ltb_lt : (a b : ℕ) → ltb a b ≡ true → a < b
-ltb_lt a b e = grind (arith, nat_tests)
 
 lt_ltb : (a b : ℕ) → a < b → ltb a b ≡ true
 lt_ltb a b e = grind (arith, nat_tests)

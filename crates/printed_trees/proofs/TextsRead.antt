@@ -10,7 +10,6 @@ use Rattle.sexpr_text.specs.Legal.{is_legal}
 use Rattle.sexpr_text.specs.Lexis.{Placed, Ended, Next, lexed_from, open_limit}
 use Rattle.sexpr_text.specs.Text.{is_simple, text_of}
 use Rattle.sexpr_text.specs.declared.token.Front.TheVariants as front
-use Rattle.sexpr_text.specs.declared.token.Token.{Token}
 use Rattle.sexpr_text.specs.declared.token.Token.TheVariants.{Open, Close, Atom}
 use Rattle.sexpr_text.specs.declared.tree.Form.{Form}
 use Rattle.sexpr_text.specs.declared.tree.Sexpr.{Sexpr}

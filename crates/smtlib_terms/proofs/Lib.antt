@@ -2,4 +2,5 @@ pub mod Rows
 pub mod SortTrees
 pub mod Steps
 pub mod TermTrees
+pub mod Tests
 pub mod Texts

@@ -4,6 +4,7 @@ use Rattle.mbqi_values.specs.declared.fault.FaultKind.{FaultKind}
 use Rattle.mbqi_values.specs.declared.fault.FaultKind.TheVariants.{BadForm, Unsupported, ReservedName, Twice, WrongSort}
 use Rattle.mbqi_terms.specs.declared.formula.Formula.{Formula}
 use Rattle.mbqi_terms.specs.declared.script.Function.{Function}
+use Rattle.mbqi_terms.specs.declared.script.Script.{Script}
 use Rattle.mbqi_terms.specs.declared.sort.Sort.{Sort}
 use Rattle.mbqi_terms.specs.declared.sort.Sort.TheVariants as sort
 use Rattle.sexpr_text.specs.declared.tree.Sexpr.{Sexpr}
@@ -25,6 +26,10 @@ pub record Declarations : Type 0 where
   pub sorts : List (List ℕ)
   pub functions : List Function
   pub macros : List Macro
+
+-- The declarations of a script, as a reader has them before its assertions.
+abbrev pub declarations_of : Script → Declarations
+declarations_of script = record { sorts = script.sorts; functions = script.functions; macros = [] }
 
 -- The arguments of a macro, each under the name of its parameter, as values of a `let`.
 abbrev pub arguments : List Parameter → List Meaning → ℕ → List Binding
