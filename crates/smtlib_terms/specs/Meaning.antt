@@ -18,6 +18,7 @@ use Rattle.mbqi_terms.specs.declared.term.Term.{Term}
 use Rattle.mbqi_terms.specs.declared.term.Term.TheVariants as term
 use Rattle.mbqi_terms.specs.Binders.{variables_in}
 use Rattle.mbqi_terms.specs.Depth.{depth_of_array, depth_of_formula, depth_of_term}
+use Rattle.mbqi_terms.specs.Limits.{depth_limit}
 use Rattle.mbqi_terms.specs.Varies.{varies, varies_term}
 use Rattle.smtlib_terms.specs.declared.meaning.Meaning.{Meaning}
 use Rattle.smtlib_terms.specs.declared.meaning.Meaning.TheVariants as meaning
@@ -32,10 +33,6 @@ abbrev pub depth_of : Meaning → ℕ
 depth_of (meaning.Formula f) = depth_of_formula f
 depth_of (meaning.Term s t) = depth_of_term t
 depth_of (meaning.Array i e a) = depth_of_array a
-
--- How deep a term may be (this project's own limit).
-abbrev pub depth_limit : ℕ
-depth_limit = 1000
 
 -- What is too deep is refused.
 abbrev pub shallow : Meaning → Result Meaning FaultKind
