@@ -165,7 +165,7 @@ model_fits fit script sizes tables atoms truths is over same are =
       declared = are.declared;
       hidden = hidden_from (size_of script.functions - 1) 0 (length script.sorts);
       tables = are.all;
-      functions = all_fit fit script.sorts (rows_of atoms truths) script.functions are.declared is.sorts is.named is.functions
+      functions = all_fit fit script.sorts (rows_of atoms truths) script.functions are.declared is.sorts (λ e. (is.named e).0) is.functions
           (wanted_rows script.functions atoms truths over) are.raised;
       names = names_fit (size_of script.functions) script.sorts (omega arith);
     })
