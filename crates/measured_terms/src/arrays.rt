@@ -30,7 +30,7 @@ impl Model for MeasuredArray {
 
     ghost coded = { array_of.the_row.coded };
 
-ghost use Rattle.mbqi_terms.specs.Varies.{varies};
+    ghost use Rattle.mbqi_terms.specs.Varies.{varies};
 
     ghost view = { λ m. m.array };
 

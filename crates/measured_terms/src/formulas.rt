@@ -37,7 +37,7 @@ impl Model for MeasuredFormula {
     ghost use Rattle.measured_terms.specs.Measures.{atom_varies};
     ghost use Rattle.mbqi_terms.specs.Depth.{depth_of_formula};
     ghost use Rattle.mbqi_terms.specs.Binders.{variables_in};
-ghost use Rattle.mbqi_terms.specs.Binders.{is_quantified, variables_in};
+    ghost use Rattle.mbqi_terms.specs.Binders.{is_quantified, variables_in};
 
     ghost view = { λ m. m.formula };
 

@@ -35,7 +35,7 @@ impl Model for MeasuredFormulas {
 
     ghost use Rattle.std.specs.List.{list_any};
     ghost use Rattle.measured_terms.specs.Measures.{atom_varies};
-ghost use Rattle.mbqi_terms.specs.Binders.{variables_in};
+    ghost use Rattle.mbqi_terms.specs.Binders.{variables_in};
 
     ghost view = { λ m. m.formulas };
 
@@ -61,7 +61,7 @@ impl Model for MeasuredTerms {
     ghost coded = { coded_list item_of.the_row.coded };
 
     ghost use Rattle.std.specs.List.{list_any};
-ghost use Rattle.mbqi_terms.specs.Varies.{varies, varies_term};
+    ghost use Rattle.mbqi_terms.specs.Varies.{varies, varies_term};
 
     ghost view = { λ m. m.terms };
 

@@ -32,7 +32,7 @@ impl Model for MeasuredTerm {
 
     ghost coded = { term_of.the_row.coded };
 
-ghost use Rattle.mbqi_terms.specs.Varies.{varies_term};
+    ghost use Rattle.mbqi_terms.specs.Varies.{varies_term};
 
     ghost view = { λ m. m.term };
 
