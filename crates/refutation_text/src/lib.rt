@@ -1,4 +1,4 @@
-//! The text of a refutation: the instances of assertions that no model makes true together.
+//! The text of a refutation: instances of assertions, of which each plainly lawful valuation of their terms makes one false.
 //!
 //! Start with [`write_refutation`].
 
