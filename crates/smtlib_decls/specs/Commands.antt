@@ -1,34 +1,23 @@
 -- What a command adds to a script (SMT-LIB 2.6, section 3.9, in this project's profile and order of kinds).
-use Rattle.std.specs.Prelude.{ℕ, Bool, true, false, ◌&&◌, List, [], ◌∷◌, ◌++◌, codes, Option, None, Some, unwrap_or, Result, Ok, Err, if◌then◌else◌}
+use Rattle.std.specs.Prelude.{ℕ, Bool, true, false, ◌&&◌, List, [], ◌∷◌, ◌++◌, codes, Option, None, Some, is_some, unwrap_or, Result, Ok, Err, if◌then◌else◌}
+use Rattle.std.specs.Option.{option_map_or}
 use Rattle.mbqi_values.specs.declared.fault.FaultKind.{FaultKind}
 use Rattle.mbqi_values.specs.declared.fault.FaultKind.TheVariants.{BadForm, Unsupported, Twice}
 use Rattle.mbqi_terms.specs.declared.formula.Formula.{Formula}
 use Rattle.mbqi_terms.specs.declared.sort.Sort.{Sort}
 use Rattle.sexpr_text.specs.declared.tree.Sexpr.{Sexpr}
-use Rattle.sexpr_text.specs.declared.tree.Sexpr.TheVariants as tree
+use Rattle.sexpr_text.specs.Trees.{numeral_in}
 use Rattle.smtlib_terms.specs.Declaring.{Declarations, formula_read, function_declared, macro_defined, sort_declared, sort_read}
 use Rattle.smtlib_terms.specs.Names.{◌>>=◌}
 use Rattle.smtlib_terms.specs.Reading.{is_list, is_some_symbol, text_of, trees_in}
-use Rattle.smtlib_terms.specs.Words.{is_one_of, is_text}
+use Rattle.smtlib_terms.specs.Words.{is_one_of, is_text, passed_over_words}
 use Rattle.term_reader.specs.Defining.{definition_parts}
 use Rattle.smtlib_decls.specs.declared.command.Command.{Command}
 use Rattle.smtlib_decls.specs.declared.command.Command.TheVariants as command
 use Rattle.smtlib_decls.specs.declared.progress.Progress.{Progress}
 use Rattle.smtlib_decls.specs.Labels.{is_taken, label_of}
 
--- The words of commands that are passed over.
-abbrev pub passed_over_words : List (List ℕ)
-passed_over_words =
-    codes "set-logic"
-    ∷ codes "set-info"
-    ∷ codes "set-option"
-    ∷ codes "get-model"
-    ∷ codes "get-info"
-    ∷ codes "get-unsat-core"
-    ∷ codes "echo"
-    ∷ []
-
--- The words of the other commands of the profile.
+-- The words of the profile's commands that aren't passed over.
 abbrev pub command_words : List (List ℕ × Command)
 command_words =
     (codes "declare-sort", command.DeclareSort)
@@ -61,12 +50,10 @@ abbrev pub renamed : Progress → Result Declarations FaultKind → Result Progr
 renamed p meant = meant >>= (λ names. Ok (with_names p names))
 
 abbrev pub is_numeral : Sexpr → Bool
-is_numeral (tree.Numeral text) = true
-is_numeral other = false
+is_numeral t = is_some (numeral_in t)
 
 abbrev pub is_zero : Sexpr → Bool
-is_zero (tree.Numeral text) = is_text text (codes "0")
-is_zero other = false
+is_zero t = option_map_or (λ text. is_text text (codes "0")) (numeral_in t) false
 
 -- `(declare-sort s 0)`: sorts with parameters are left out.
 abbrev pub sort_command : Progress → List Sexpr → Result Progress FaultKind

@@ -2,13 +2,12 @@
 
 ghost use Rattle.std.specs.Prelude.{◌≡◌, ◌<◌, ℕ, true, false, ◌++◌, ◌==◌, OnOk};
 ghost use Rattle.std.specs.List.{list_all, list_any};
-ghost use Rattle.sexpr_text.specs.Bytes.{is_symbol_byte};
-ghost use Rattle.sexpr_text.specs.Text.{is_simple};
 ghost use Rattle.smtlib_printer.specs.Names.{begins_with, function_name, is_begun, longest, longest_function, marks_of, name_text, sort_name, variable_text};
 
 use itoa::Buffer;
 use mbqi_terms::{Function, Script};
 use mbqi_values::Text;
+use sexpr_text::is_simple;
 use smtlib_terms::word::is_reserved_word;
 use std::alloc::AllocError;
 
@@ -23,27 +22,6 @@ pub fn write_name(name: &[u8], into: &mut Vec<u8>) -> Result<(), AllocError>
     into.extend_from_slice(b"|")?;
     into.extend_from_slice(name)?;
     into.extend_from_slice(b"|")
-}
-
-/// Whether a symbol needs no bars, reserved words apart.
-#[tactic(auto, unfolding(sexpr_text::specs::Text::is_simple))]
-fn is_simple(text: &[u8]) -> bool
-    ensures { result ≡ is_simple text.now }
-{
-    !text.is_empty() && are_symbol_bytes(text) && !text[0].is_ascii_digit()
-}
-
-fn are_symbol_bytes(text: &[u8]) -> bool
-    ensures { result ≡ list_all is_symbol_byte text.now }
-{
-    text.iter().all(|byte| is_symbol_byte(*byte))
-}
-
-#[tactic(auto, unfolding(sexpr_text::specs::Bytes::is_symbol_byte))]
-fn is_symbol_byte(byte: u8) -> bool
-    ensures { result ≡ is_symbol_byte byte }
-{
-    byte.is_ascii_alphanumeric() || b"~!@$%^&*_-+=<>.?/".contains(&byte)
 }
 
 /// Appends the name of a declared sort, or the empty name.
