@@ -1,7 +1,7 @@
 #!/usr/bin/env python3
 """Compares what `mbqi print` and `mbqi solve` say of random scripts with what z3 says. Outside the gate; it proves nothing.
 
-usage: bench/against_z3.py PROGRAM [COUNT [SEED]]
+usage: tools/against_z3.py PROGRAM [COUNT [SEED]]
 
 PROGRAM is the built program, COUNT how many scripts, SEED where the random numbers begin. For each script that `print` takes:
 - z3 takes it too;
