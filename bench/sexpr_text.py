@@ -3,7 +3,7 @@
 
     bench/sexpr_text.py [COMMAND..]
 
-COMMAND is run with the file's name behind it, and `./mbqi solve` where none is given, which reads all forms before it refuses them. Each shape is made at each
+COMMAND is run with the file's name behind it, and `./mbqi solve` where none is given, which reads all forms before it answers or refuses them. Each shape is made at each
 size, and a line tells the seconds of the best of three runs and the seconds a MiB: these stay about the same along a
 row where the time is linear. The data is made in a folder of its own, and deleted at the end. It is no part of the
 gate.
@@ -17,6 +17,8 @@ import time
 MIB = 1 << 20
 SIZES = [1, 4, 16, 64]
 RUNS = 3
+# Printed, refused, or sat: a file of comments alone is an empty script, which has a model.
+PASSED = (0, 3, 10)
 
 
 def filled(piece, size):
@@ -47,7 +49,7 @@ def seconds_of(command):
         start = time.perf_counter()
         done = subprocess.run(command, stdout=subprocess.DEVNULL, stderr=subprocess.PIPE, check=False)
         taken = time.perf_counter() - start
-        if done.returncode not in (0, 3):
+        if done.returncode not in PASSED:
             sys.exit(f"{command}: status {done.returncode}: {done.stderr[:200]!r}")
         best = taken if best is None else min(best, taken)
     return best
