@@ -1,0 +1,6 @@
+mod Arrays
+mod Calls
+mod Items
+mod Moves
+mod Starts
+mod Walks
