@@ -2,6 +2,7 @@
 
 ghost use Rattle.std.specs.Prelude.{◌≡◌, IfOk};
 ghost use Rattle.mbqi_terms.specs.Depth.{depth_of_array};
+ghost use Rattle.mbqi_terms.specs.Varies.{varies};
 
 use crate::lists::MeasuredArrays;
 use crate::measures::deeper;
@@ -22,14 +23,13 @@ pub struct MeasuredArray {
 impl Model for MeasuredArray {
     ghost use Rattle.std.specs.Prelude.{◌≡◌};
     ghost use Rattle.mbqi_terms.specs.declared.term.ArrayTerm.{ArrayTerm};
-    ghost use Rattle.mbqi_terms.specs.Depth.{depth_of_array};
-    ghost use Rattle.mbqi_terms.specs.Varies.{varies};
     ghost use Rattle.mbqi_terms.specs.contracts.term.ArrayTerm as array_of;
 
     ghost Value = { ArrayTerm };
 
     ghost coded = { array_of.the_row.coded };
 
+    ghost use Rattle.mbqi_terms.specs.Depth.{depth_of_array};
     ghost use Rattle.mbqi_terms.specs.Varies.{varies};
 
     ghost view = { λ m. m.array };

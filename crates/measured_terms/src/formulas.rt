@@ -4,6 +4,7 @@ ghost use Rattle.std.specs.Prelude.{◌≡◌, ◌+◌, max, IfOk, MatchOption, 
 ghost use Rattle.mbqi_values.specs.declared.fault.FaultKind.TheVariants.{Unsupported};
 ghost use Rattle.measured_terms.specs.Measures.{atom_varies};
 ghost use Rattle.mbqi_terms.specs.Depth.{depth_of_formula};
+ghost use Rattle.mbqi_terms.specs.Binders.{is_quantified, variables_in};
 ghost use Rattle.smtlib_terms.specs.Operators.{truth_value};
 
 use crate::arrays::MeasuredArray;
@@ -37,7 +38,6 @@ impl Model for MeasuredFormula {
     ghost use Rattle.measured_terms.specs.Measures.{atom_varies};
     ghost use Rattle.mbqi_terms.specs.Depth.{depth_of_formula};
     ghost use Rattle.mbqi_terms.specs.Binders.{variables_in};
-    ghost use Rattle.mbqi_terms.specs.Binders.{is_quantified, variables_in};
 
     ghost view = { λ m. m.formula };
 

@@ -2,6 +2,7 @@
 
 ghost use Rattle.std.specs.Prelude.{◌≡◌, IfOk};
 ghost use Rattle.mbqi_terms.specs.Depth.{depth_of_term};
+ghost use Rattle.mbqi_terms.specs.Varies.{varies_term};
 ghost use Rattle.smtlib_terms.specs.Number.{sum_of};
 
 use crate::arrays::MeasuredArray;
@@ -24,14 +25,13 @@ pub struct MeasuredTerm {
 impl Model for MeasuredTerm {
     ghost use Rattle.std.specs.Prelude.{◌≡◌};
     ghost use Rattle.mbqi_terms.specs.declared.term.Term.{Term};
-    ghost use Rattle.mbqi_terms.specs.Depth.{depth_of_term};
-    ghost use Rattle.mbqi_terms.specs.Varies.{varies_term};
     ghost use Rattle.mbqi_terms.specs.contracts.term.Term as term_of;
 
     ghost Value = { Term };
 
     ghost coded = { term_of.the_row.coded };
 
+    ghost use Rattle.mbqi_terms.specs.Depth.{depth_of_term};
     ghost use Rattle.mbqi_terms.specs.Varies.{varies_term};
 
     ghost view = { λ m. m.term };
