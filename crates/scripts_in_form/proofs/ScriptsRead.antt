@@ -20,9 +20,9 @@ use Rattle.printed_script.proofs.Commands.{text_means}
 use Rattle.scripts_in_form.proofs.LegalNames.{forms_legal}
 use Rattle.scripts_in_form.proofs.Lengths.{formula_length, formulas_short}
 use Rattle.scripts_in_form.proofs.Limits.{limited}
-use Rattle.scripts_in_form.proofs.Macros.{formula_is_read}
+use Rattle.scripts_in_form.proofs.Macros.{definition_is_kept, formula_is_read}
 use Rattle.scripts_in_form.proofs.Placed.{IsFunction, IsPlaced}
-use Rattle.scripts_in_form.proofs.Progressing.{IsPart, script_in_form}
+use Rattle.scripts_in_form.proofs.Progressing.{IsPart, KeepsBodies, script_in_form}
 use Rattle.scripts_in_form.proofs.Steps.{first_or_rest}
 
 -- the function of a name stands at its number
@@ -41,13 +41,16 @@ found_at name at (f ∷ fs) number g found =
     (record { index = 0; place = omega arith; there = refl })
     (λ more. found_further at f fs number g (found_at name (at + 1) fs number g more)) found
 
-part_is_placed : (script : Script) (d : Declarations) (t : Sexpr) (f : Formula) → IsPart script d → formula_read d t ≡ Ok f → IsPlaced script [] 0 f × (depth_of_formula f ≤ 1000)
-part_is_placed script d t f part read =
-    formula_is_read script d t f part.sorts
-    (λ name number g found.
+function_is : (script : Script) (d : Declarations) → IsPart script d → (name : List ℕ) (number : ℕ) (g : Function) → function_named name 0 d.functions ≡ Some (number, g) → IsFunction script number g
+function_is script d part name number g found =
     let at = found_at name 0 d.functions number g found in
-    subst (λ (n : ℕ). IsFunction script n g) (let place = at.place in let same : at.index ≡ number = omega arith in same) (part.functions at.index g at.there))
-    read
+    subst (λ (n : ℕ). IsFunction script n g) (let place = at.place in let same : at.index ≡ number = omega arith in same) (part.functions at.index g at.there)
+
+part_is_placed : (script : Script) (d : Declarations) (t : Sexpr) (f : Formula) → IsPart script d → formula_read d t ≡ Ok f → IsPlaced script [] 0 f × (depth_of_formula f ≤ 1000)
+part_is_placed script d t f part read = formula_is_read script d t f part.sorts (function_is script d part) part.macros read
+
+part_keeps : (script : Script) → KeepsBodies script
+part_keeps script d given m part read = definition_is_kept script d given m part.sorts (function_is script d part) part.macros read
 
 few_places : (script : Script) → length (script_text script) ≤ 2 ^ 64 → All (λ (a : Assertion). IsPlaced script [] 0 a.formula → variables_in a.formula ≤ 2 ^ 64) script.assertions
 few_places script short i d within placed =
@@ -57,7 +60,7 @@ few_places script short i d within placed =
 
 pub read_in_form : (bytes : List ℕ) (script : Script) → Means bytes script → length (script_text script) ≤ 2 ^ 64 → IsInForm script
 read_in_form bytes script means short =
-    script_in_form means.0 script (forms_legal bytes means.0 means.1) means.2 (part_is_placed script) (few_places script short) (λ f placed within. limited script [] 0 f placed (omega arith))
+    script_in_form means.0 script (forms_legal bytes means.0 means.1) means.2 (part_is_placed script) (part_keeps script) (few_places script short) (λ f placed within. limited script [] 0 f placed (omega arith))
 
 -- So the canonical text means the script.
 pub printed_again : (bytes : List ℕ) (script : Script) → Means bytes script → length (script_text script) ≤ 2 ^ 64 → All IsShallow (script_trees script) → Means (script_text script) script
