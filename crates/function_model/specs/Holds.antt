@@ -19,6 +19,7 @@ use Rattle.mbqi_terms.specs.declared.term.ArrayTerm.TheFolds.{fold-ArrayTerm}
 use Rattle.mbqi_terms.specs.declared.term.ArrayTerm.TheOpen.{ArrayTerm-F}
 use Rattle.function_model.specs.declared.model.FunctionModel.{FunctionModel}
 use Rattle.mbqi_terms.specs.Meanings.{Meanings}
+use Rattle.mbqi_terms.specs.Sort.{plain_sort}
 use Rattle.function_model.specs.ValueOf.{Point, value_of, array_of}
 
 -- The value has the sort in a universe of these sizes; all integers have the sort Int.

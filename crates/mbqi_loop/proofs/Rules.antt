@@ -103,7 +103,7 @@ module _ (script : Script) (model : FunctionModel) (fits : Fits script (shown_of
   rules_hold is k (a ∷ assertions) at all first =
       let (closed, rest) = by (variables_of a.formula) first in (
         rule_holds is k a (from_here script.assertions k a assertions at) all.0
-        (λ none. ap (truth_of (values_in model)) (sym (itself_whole script is k a.formula all.0 none)) ∙ closed none),
+            (λ none. ap (truth_of (values_in model)) (sym (itself_whole script is k a.formula all.0 none)) ∙ closed none),
         rules_hold is (k + 1) assertions (from_next script.assertions k a assertions at) all.1 rest,
       )
     where

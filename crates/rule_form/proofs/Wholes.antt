@@ -18,8 +18,9 @@ use Rattle.rule_form.proofs.Putting.{alike_atom, put_any, put_atom, put_not}
 
 -- the whole instance is an instance
 mutual
-  pub whole_is : (f : Formula) (i : Instantiation) (b : Bool) → InstanceAt i b f (whole i b f)
   unfolding InstanceAt whole hidden-the_row-Formula-0 hidden hidden-the_row-Formula-1
+
+  pub whole_is : (f : Formula) (i : Instantiation) (b : Bool) → InstanceAt i b f (whole i b f)
   whole_is (formula.Truth t) i b = refl
   whole_is (Atom t) i b = refl
   whole_is (Equal s t) i b = refl
@@ -39,7 +40,6 @@ mutual
   whole_is (Exists' bs u (more_of-Formula f end_of-Formula)) i false = whole_is f (below_universal bs i) false
 
   each_is : {n : _} (fs : Row_of-Formula n) (i : Instantiation) (b : Bool) → EachInstance i b fs (whole_each i b fs)
-  unfolding InstanceAt whole hidden-the_row-Formula-0 hidden hidden-the_row-Formula-1
   each_is end_of-Formula i b = tt
   each_is (more_of-Formula f fs) i b = (whole_is f i b, each_is fs i b)
 

@@ -11,8 +11,7 @@ use Rattle.mbqi_terms.specs.declared.formula.Formula.TheOpen.{Formula-F}
 use Rattle.mbqi_terms.specs.declared.formula.Formula.TheVariants as formula
 use Rattle.mbqi_terms.specs.declared.script.Function.{Function}
 use Rattle.mbqi_terms.specs.declared.term.Term.{Term}
-use Rattle.mbqi_terms.specs.Meanings.{Meanings, truth_of}
-use Rattle.function_model.specs.TruthOf.{truth_layer as meaning_layer}
+use Rattle.mbqi_terms.specs.Meanings.{Meanings, truth_layer as meaning_layer, truth_of}
 use Rattle.mbqi_values.specs.Value.{is_true}
 use Rattle.ground_form.specs.Atoms.{Decides, IsOver, IsPool, atom_tree, same_atom, truth_in}
 use Rattle.ground_form.specs.Profile.{IsArgument, IsAtom, IsClause, IsLiteral}
