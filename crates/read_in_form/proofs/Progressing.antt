@@ -30,7 +30,6 @@ use Rattle.smtlib_decls.specs.Scripts.{behind_form, is_exit, nothing, script_fro
 use Rattle.mbqi_terms.specs.InForm.{DifferInLabels, IsRanked, IsResultSort, IsVariableSort}
 use Rattle.smtlib_terms.specs.InForm.{AreNamed, IsFormula, IsInForm, IsName}
 use Rattle.smtlib_terms.proofs.Tests.{all_get}
-use Rattle.printed_trees.specs.Names.{declarations_of}
 use Rattle.read_in_form.proofs.Placed.{IsFunction, IsKeptBody}
 use Rattle.read_in_form.proofs.CommandSteps.{IsLegalText, IsNamedSort, IsNewFunction, IsStep, command_steps, with_question}
 use Rattle.read_in_form.proofs.LegalNames.{IsLegalForm}
