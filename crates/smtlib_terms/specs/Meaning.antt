@@ -84,6 +84,10 @@ depth_of (meaning.Array i e a) = depth_of_array a
 abbrev pub shallow : Meaning → Result Meaning FaultKind
 shallow m = if nat_le (depth_of m) 1000 then Ok m else Err TooDeep
 
+-- The kind of a refusal of what has a tree all the same: where the tree is too deep, this comes first.
+abbrev pub unless_deep : FaultKind → ℕ → FaultKind
+unless_deep kind depth = if nat_le depth 1000 then kind else TooDeep
+
 -- How many variables the quantifiers of a formula bind.
 abbrev pub formula_variables : Formula-F ℕ → ℕ
 formula_variables (Formula-F.Truth b) = 0

@@ -11,4 +11,4 @@ pub mod names;
 mod refusal;
 pub mod word;
 
-pub use refusal::refused;
+pub use refusal::{refused, refused_unless_deep};
