@@ -9,6 +9,7 @@ use crate::scope::{Binding, Bindings, Bound};
 use array_operators::application;
 use mbqi_terms::{Sorts, copy_text};
 use mbqi_values::Sequence;
+use measured_terms::MeasuredTerms;
 use operator_arguments::{Meanings, Queue};
 use smtlib_terms::names::Parameter;
 use std::alloc::{AllocError, Global};
@@ -68,7 +69,7 @@ pub fn opaque_from(
     let mut args = Sequence::new(alloc);
     let mut number = first;
     for parameter in parameters {
-        args.push(application(alloc, number, Sequence::new(alloc), parameter.sort)?)?;
+        args.push(application(number, MeasuredTerms::new(alloc), parameter.sort)?)?;
         let following = number_behind(number)?;
         number = following;
     }
