@@ -1,10 +1,10 @@
 -- What is kept of the lists, and what it is after an item was taken out or put in front.
-use Rattle.std.proofs.Common.{◌≡◌, ◌≢◌, ◌⊎◌, ◌<◌, ◌≤◌, ◌+◌, ℕ, zero, suc, Bool, true, false, true≢false, List, [], ◌∷◌, length, map, Option, Some, None, get_or, ◌==◌, slice_get, slice_set, refl, sym, ap, ◌∙◌, subst, inl, inr, arith, length-set, get_or-set_same, get_or-set_other}
-use Rattle.std.proofs.lemmas.Bool.{cases_eq, cases_lt, eq-eqb, eqb-true, false_from_ne_true, ne_eqb, or_cases, or_right}
+use Rattle.std.proofs.Common.{◌≡◌, ◌≢◌, ◌⊎◌, ◌<◌, ℕ, true, false, true≢false, List, [], ◌∷◌, length, Option, Some, None, ◌==◌, slice_get, slice_set, refl, sym, ap, ◌∙◌, subst, inl, inr, arith, length-set, get_or-set_same, get_or-set_other}
+use Rattle.std.proofs.lemmas.Bool.{cases_eq, cases_lt, eq-eqb, eqb-true, false_from_ne_true, ne_eqb, or_cases}
 use Rattle.std.proofs.lemmas.List.{get_or_past}
-use Rattle.index_lists.specs.Lists.{AreDisjoint, behind, has, IsOnce, item_count, items_of, list_of, moved_to, put_first, taken_out, without}
-use Rattle.index_lists.specs.Links.{AreLinked, Arrays, before, first_without, IsLinked, IsPlaced, link_of, lists_by, walk, with_link}
-use Rattle.index_lists.proofs.Items.{before-more_first, before-more_other, before-without_next, before-without_other, behind-without_before, behind-without_other, first-without_first, first-without_other, has-before, has-behind, has-first, has-from_without, has-without, has-without_same, length-without, once-more, once-without}
+use Rattle.index_lists.specs.Lists.{behind, has, IsOnce, items_of, put_first, without}
+use Rattle.index_lists.specs.Links.{AreLinked, Arrays, before, first_without, IsPlaced, link_of, with_link}
+use Rattle.index_lists.proofs.Items.{before-more_first, before-more_other, before-without_next, before-without_other, behind-without_before, behind-without_other, first-without_first, first-without_other, has-before, has-behind, has-first, has-from_without, has-without, has-without_same, once-more, once-without}
 
 -- an option is this number, or it isn't
 option_is : (o : Option ℕ) (x : ℕ) → (o ≡ Some x) ⊎ (o ≢ Some x)

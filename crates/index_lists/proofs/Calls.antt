@@ -1,9 +1,9 @@
 -- What the calls answer, from what is kept.
-use Rattle.std.proofs.Common.{◌≡◌, ◌≢◌, ◌<◌, ℕ, true, List, [], ◌∷◌, length, replicate, map, sum_by, Option, Some, None, get_or, slice_get, slice_set, refl, sym, ap, ◌∙◌, subst, arith, length-set}
+use Rattle.std.proofs.Common.{◌≡◌, ◌≢◌, ◌<◌, ℕ, true, List, ◌∷◌, length, replicate, map, sum_by, Option, Some, None, get_or, slice_get, slice_set, refl, sym, ap, ◌∙◌, subst, arith, length-set}
 use Rattle.std.specs.List.{range_with_len}
 use Rattle.std.specs.Option.{IfSome}
 use Rattle.std.proofs.lemmas.List.{get_or_read}
-use Rattle.index_lists.specs.Lists.{all_in_first, AreDisjoint, behind, each_alone, has, item_count, items_behind, items_from, items_of, list_of, moved_to, without}
+use Rattle.index_lists.specs.Lists.{all_in_first, AreDisjoint, each_alone, has, item_count, items_behind, items_from, items_of, list_of, moved_to, without}
 use Rattle.index_lists.specs.Links.{AreLinked, Arrays, first_links, first_without, IsLinked, IsPlaced, link_of, lists_by, next_links, previous_links, with_link}
 use Rattle.index_lists.proofs.Arrays.{taken-linked, taken_arrays}
 use Rattle.index_lists.proofs.Items.{has-before, has-behind, has-first}

@@ -1,6 +1,5 @@
 -- One list of items: which it has, and what stands before and behind each, also without one of them.
-use Rattle.std.proofs.Common.{◌≡◌, ◌≢◌, ◌⊎◌, ℕ, suc, Bool, true, false, true≢false, ◌||◌, List, [], ◌∷◌, length, ◌+◌, Option, Some, None, slice_get, eqb, refl, sym, ap, ◌∙◌, inl, inr, arith}
-use Rattle.std.specs.List.{list_any}
+use Rattle.std.proofs.Common.{◌≡◌, ◌≢◌, ℕ, true, false, true≢false, ◌||◌, List, [], ◌∷◌, length, ◌+◌, Option, Some, None, slice_get, eqb, refl, sym, ap, ◌∙◌, inl, inr, arith}
 use Rattle.std.proofs.lemmas.Bool.{or_cases, or_parts, or_right, eq-eqb, eqb-false, ne_eqb, false_from_ne_true}
 use Rattle.std.proofs.lemmas.Bool.Decides.{eqb_tells}
 use Rattle.index_lists.specs.Lists.{behind, has, IsOnce, without}

@@ -1,10 +1,10 @@
 -- The lists that the arrays show, and those after an item was moved.
-use Rattle.std.proofs.Common.{◌≡◌, ◌≢◌, ◌⊎◌, ◌<◌, ◌≤◌, ◌+◌, ℕ, zero, suc, Bool, true, false, true≢false, List, [], ◌∷◌, length, map, Option, Some, None, get_or, ◌==◌, slice_get, slice_set, sum_by, refl, sym, ap, ◌∙◌, subst, inl, inr, arith, length-set, get_or-set_same, get_or-set_other}
+use Rattle.std.proofs.Common.{◌≡◌, ◌≢◌, ◌⊎◌, ◌<◌, ◌≤◌, ℕ, zero, suc, true, false, true≢false, List, [], ◌∷◌, length, Option, None, get_or, ◌==◌, slice_get, slice_set, refl, sym, ap, ◌∙◌, subst, inl, inr, arith, length-set, get_or-set_same, get_or-set_other}
 use Rattle.std.proofs.lemmas.Bool.{cases_eq, eq-eqb, ne_eqb, or_right}
 use Rattle.std.proofs.lemmas.List.{get_or-map, length-map, get_or_default, same_lists}
 use Rattle.std.proofs.lemmas.List.Sums.{get_or-le-sum_by, sum_by-set}
-use Rattle.index_lists.specs.Lists.{AreDisjoint, behind, has, IsOnce, item_count, items_of, list_of, moved_to, put_first, taken_out, without}
-use Rattle.index_lists.specs.Links.{AreLinked, Arrays, first_without, IsLinked, IsPlaced, link_of, lists_by, walk, with_link}
+use Rattle.index_lists.specs.Lists.{AreDisjoint, behind, has, IsOnce, item_count, items_of, list_of, moved_to, put_first, without}
+use Rattle.index_lists.specs.Links.{AreLinked, Arrays, IsLinked, link_of, lists_by, walk}
 use Rattle.index_lists.proofs.Arrays.{apart, list_is, others_are, left_by, put-length, put-linked, put_arrays, taken-absent, taken-length, taken-linked, taken-others, taken_arrays, within-has}
 use Rattle.index_lists.proofs.Items.{length-without, once-first, once-rest}
 use Rattle.index_lists.proofs.Walks.{list_of-alone}

@@ -1,14 +1,14 @@
 -- The arrays of the lists that one begins with.
-use Rattle.std.proofs.Common.{◌≡◌, ◌≢◌, ◌⊎◌, ◌<◌, ◌≤◌, ◌+◌, ◌-◌, ℕ, zero, suc, Bool, true, false, true≢false, List, [], ◌∷◌, length, map, Option, Some, None, get_or, ◌==◌, nat_lt, if◌then◌else◌, slice_get, slice_set, sum_by, replicate, refl, sym, ap, ◌∙◌, subst, inl, inr, arith, length-set}
+use Rattle.std.proofs.Common.{◌≡◌, ◌⊎◌, ◌<◌, ◌≤◌, ◌+◌, ◌-◌, ℕ, zero, suc, true, false, true≢false, List, [], ◌∷◌, length, map, Option, Some, None, get_or, ◌==◌, nat_lt, if◌then◌else◌, slice_get, replicate, refl, sym, ap, ◌∙◌, subst, inl, inr, arith, length-set}
 use Rattle.std.specs.List.{range_with_len}
-use Rattle.std.proofs.lemmas.Bool.{cases_eq, cases_lt, eq-eqb, eqb-true, false_from_ne_true, le-ltb, lt-ltb, ne_eqb, or_cases, or_right}
+use Rattle.std.proofs.lemmas.Bool.{cases_eq, cases_lt, eq-eqb, eqb-true, false_from_ne_true, le-ltb, lt-ltb, or_cases, or_right}
 use Rattle.std.proofs.lemmas.Bool.Decides.{eqb_tells}
-use Rattle.std.proofs.lemmas.List.{get_or_past, length-map, length-replicate}
+use Rattle.std.proofs.lemmas.List.{get_or_past, length-replicate}
 use Rattle.std.proofs.lemmas.List.Folds.{sum_by-replicate}
 use Rattle.std.proofs.lemmas.List.FromFn.{get_or-map-range_with_len, get_or-range_with_len, length-map-range_with_len, length-range_with_len}
-use Rattle.std.proofs.lemmas.List.Sums.{sum_by-cons, sum_by-set}
+use Rattle.std.proofs.lemmas.List.Sums.{sum_by-cons}
 use Rattle.index_lists.specs.Lists.{all_in_first, behind, each_alone, has, IsOnce, item_count, items_of}
-use Rattle.index_lists.specs.Links.{AreLinked, Arrays, before, first_links, IsLinked, IsPlaced, link_of, next_links, previous_links}
+use Rattle.index_lists.specs.Links.{Arrays, before, first_links, IsLinked, IsPlaced, link_of, next_links, previous_links}
 
 -- the numbers of a range
 range-within : (a n x : ℕ) → has x (range_with_len a n) ≡ true → (a ≤ x) × (x < a + n)
