@@ -3,21 +3,20 @@ use Rattle.std.proofs.Common.{◌≡◌, ℕ, zero, suc, ◌+◌, Bool, true, fa
 use Rattle.std.specs.Prelude.{codes, if◌then◌else◌}
 use Rattle.std.specs.List.{AllByRecursion, list_all, list_any, position}
 use Rattle.mbqi_values.specs.declared.fault.FaultKind.{FaultKind}
-use Rattle.mbqi_values.specs.declared.fault.FaultKind.TheVariants.{BadForm, ReservedName, Twice, Unsupported, WrongSort}
+use Rattle.mbqi_values.specs.declared.fault.FaultKind.TheVariants.{BadForm, ReservedName, Twice, Unsupported}
 use Rattle.mbqi_terms.specs.declared.formula.Formula.{Formula}
 use Rattle.mbqi_terms.specs.declared.script.Function.{Function}
 use Rattle.mbqi_terms.specs.declared.sort.Sort.{Sort}
 use Rattle.sexpr_text.specs.Bytes.{is_quoted_content}
 use Rattle.sexpr_text.specs.declared.tree.Sexpr.{Sexpr}
 use Rattle.smtlib_terms.specs.declared.meaning.Meaning.{Meaning}
+use Rattle.smtlib_terms.specs.declared.names.Definition.{Definition}
 use Rattle.smtlib_terms.specs.declared.names.Macro.{Macro}
-use Rattle.smtlib_terms.specs.declared.names.Parameter.{Parameter}
-use Rattle.smtlib_terms.specs.Declaring.{Declarations, body_defined, declarable, defined, definition_of, definition_read, formula_read, function_declared, is_function, is_supported, macro_defined, parameters_of, sort_declared, sort_read, with_definition, with_function, with_sort}
+use Rattle.smtlib_terms.specs.Declaring.{Declarations, body_meant, declarable, definition_of, definition_parts, formula_read, function_declared, is_function, is_supported, macro_defined, macro_meant, macro_of, may_define, sort_declared, sort_read, with_definition, with_function, with_sort}
 use Rattle.smtlib_terms.specs.Meaning.{sort_of}
-use Rattle.smtlib_terms.specs.Names.{◌>>=◌, is_symbol, sort_meant}
+use Rattle.smtlib_terms.specs.Names.{◌>>=◌, is_symbol}
 use Rattle.smtlib_terms.specs.Reading.{is_list, is_some_symbol, text_of, trees_in}
 use Rattle.smtlib_terms.specs.Words.{is_one_of, is_reserved}
-use Rattle.term_reader.specs.Defining.{definition_parts}
 use Rattle.smtlib_decls.specs.declared.command.Command.{Command}
 use Rattle.smtlib_decls.specs.declared.command.Command.TheVariants as command
 use Rattle.smtlib_decls.specs.declared.progress.Progress.{Progress}
@@ -25,7 +24,6 @@ use Rattle.smtlib_decls.specs.Commands.{asserted, assertion_command, by_command,
 use Rattle.smtlib_decls.specs.Labels.{attributes_in, first_symbol, is_named, is_taken, label_at, label_of}
 use Rattle.read_in_form.proofs.LegalNames.{AreLegal, text_legal, trees_legal}
 use Rattle.read_in_form.proofs.Steps.{not_refused, passed, same_ok, stepped}
-use Rattle.mbqi_terms.specs.Sort.{is_sort}
 
 -- A text that a symbol may have.
 abbrev pub IsLegalText : List ℕ → Type 0
@@ -64,7 +62,7 @@ pub data IsStep (p : Progress) : Progress → Type 0 where
   passed_over : IsStep p p
   sort : (name : List ℕ) → IsNew (is_one_of p.names.sorts name) name → IsStep p (with_names p (with_sort p.names name))
   function : (f : Function) → IsNewFunction p.names f → IsStep p (with_names p (with_function p.names f))
-  definition : (m : Macro) → IsStep p (with_names p (with_definition p.names m))
+  definition : (given : Definition) (m : Meaning) → body_meant p.names given ≡ Ok m → IsStep p (with_names p (with_definition p.names (macro_of given m)))
   assertion : (label : Option (List ℕ)) (f : Formula) → IsNewAssertion p label f → IsStep p (with_assertion p label f)
   question : IsStep p (with_question p)
 
@@ -147,35 +145,24 @@ signature_steps p (name ∷ args ∷ result ∷ []) next legal e =
 signature_steps p (name ∷ args ∷ result ∷ part ∷ parts) next legal e = cc
 
 -- Definitions.
-abbrev IsDefined : Declarations → Declarations → Type 0
-IsDefined d after = (m : Macro) × (with_definition d m ≡ after)
+record IsDefined (d : Declarations) (after : Declarations) : Type 0 where
+  given : Definition
+  meaning : Meaning
+  read : body_meant d given ≡ Ok meaning
+  same : with_definition d (macro_of given meaning) ≡ after
 
-defined_back : (d : Declarations) (m : Macro) (meaning : Meaning) (after : Declarations) → defined d m meaning ≡ Ok after → IsDefined d after
-defined_back d m meaning after e =
-    let one = stepped (declarable m.name (is_function d m.name) (with_definition d m)) (λ after. if is_sort m.result (sort_of meaning) then Ok after else Err WrongSort) after e in
-    let free = not_refused (is_reserved m.name) _ ReservedName one.value one.first in
-    let new = not_refused (is_function d m.name) _ Twice one.value free.1 in
-    let kept = passed (is_sort m.result (sort_of meaning)) _ WrongSort after one.rest in
-    (m, same_ok _ _ new.1 ∙ same_ok _ _ kept.1)
+macro_back : (d : Declarations) (given : Definition) (m : Macro) → macro_meant d given ≡ Ok m → (meaning : Meaning) × (body_meant d given ≡ Ok meaning) × (macro_of given meaning ≡ m)
+macro_back d given m e =
+    let one = stepped (body_meant d given) (λ (meaning : Meaning). may_define d given (sort_of meaning) >>= (λ u. Ok (macro_of given meaning))) m e in
+    let two = stepped (may_define d given (sort_of one.value)) (λ u. Ok (macro_of given one.value)) m one.rest in
+    (one.value, one.first, same_ok _ _ two.rest)
 
-body_back : (d : Declarations) (m : Macro) (after : Declarations) → body_defined d m ≡ Ok after → IsDefined d after
-body_back d m after e = let one = stepped _ (defined d m) after e in defined_back d m one.value after one.rest
-
-definition_back : (d : Declarations) (name : List ℕ) (parameters : List Sexpr) (result body : Sexpr) (after : Declarations) → definition_read d name parameters result body ≡ Ok after → IsDefined d after
-definition_back d name parameters result body after e =
-    let macro_of : List Parameter → Sort → Macro = λ ps s. record { name = name; parameters = ps; result = s; body = body } in
-    let one = stepped (parameters_of parameters d.sorts []) (λ ps. sort_meant result d.sorts >>= (λ s. body_defined d (macro_of ps s))) after e in
-    let two = stepped (sort_meant result d.sorts) (λ s. body_defined d (macro_of one.value s)) after one.rest in
-    body_back d (macro_of one.value two.value) after two.rest
-
-macro_back : (d : Declarations) (trees : List Sexpr) (after : Declarations) → definition_of d trees ≡ Ok after → IsDefined d after
-macro_back d [] after e = cc
-macro_back d (a ∷ []) after e = cc
-macro_back d (a ∷ b ∷ []) after e = cc
-macro_back d (a ∷ b ∷ c ∷ []) after e = cc
-macro_back d (a ∷ b ∷ c ∷ r ∷ []) after e = cc
-macro_back d (head ∷ name ∷ parameters ∷ result ∷ body ∷ []) after e = definition_back d (text_of name) (trees_in parameters) result body after (passed _ _ BadForm after e).1
-macro_back d (a ∷ b ∷ c ∷ r ∷ s ∷ t ∷ ts) after e = cc
+definition_back : (d : Declarations) (t : Sexpr) (after : Declarations) → macro_defined d t ≡ Ok after → IsDefined d after
+definition_back d t after e =
+    let one = stepped (definition_of d (trees_in t)) (λ (given : Definition). macro_meant d given >>= (λ (m : Macro). Ok (with_definition d m))) after e in
+    let two = stepped (macro_meant d one.value) (λ (m : Macro). Ok (with_definition d m)) after one.rest in
+    let m = macro_back d one.value two.value two.first in
+    record { given = one.value; meaning = m.0; read = m.1; same = ap (with_definition d) m.2 ∙ same_ok _ _ two.rest }
 
 never_behind : (p : Progress) (t : Sexpr) (next : Progress) → definition_behind p t ≡ Ok next → ⊥
 unfolding definition_behind
@@ -190,8 +177,8 @@ definition_steps p t next e = go p.asks e
     go true e = absurd (never_behind p t next e)
     go false e =
         let back = renamed_back p (macro_defined p.names t) next e in
-        let m = macro_back p.names (trees_in t) back.0 back.1 in
-        subst (IsStep p) (ap (with_names p) m.1 ∙ back.2) (IsStep.definition m.0)
+        let m = definition_back p.names t back.0 back.1 in
+        subst (IsStep p) (ap (with_names p) m.same ∙ back.2) (IsStep.definition m.given m.meaning m.read)
 
 -- Labels.
 attributes_legal : (ts : List Sexpr) → AllByRecursion AreLegal ts → AllByRecursion AreLegal (attributes_in ts)

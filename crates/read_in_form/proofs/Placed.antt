@@ -15,6 +15,8 @@ use Rattle.smtlib_terms.specs.declared.meaning.Meaning.TheVariants as meaning
 use Rattle.smtlib_terms.specs.declared.meaning.Side.{Side}
 use Rattle.smtlib_terms.specs.declared.meaning.Side.TheVariants.{Meant, Difference}
 use Rattle.smtlib_terms.specs.declared.names.Binding.{Binding}
+use Rattle.smtlib_terms.specs.declared.names.MacroBody.{MacroBody}
+use Rattle.smtlib_terms.specs.declared.names.MacroBody.TheVariants as body
 use Rattle.smtlib_terms.specs.Meaning.{depth_of, shifted_place, variables_of}
 use Rattle.smtlib_terms.specs.Names.{Reader, Signature, bound_to, function_named, macro_named}
 use Rattle.mbqi_terms.specs.HasSort.{IsIndexSort, IsPlainSort, sort_at}
@@ -105,6 +107,11 @@ IsScope script scope next bindings = (name : List ℕ) (bound : Bound) → bound
 pub record IsFunction (script : Script) (number : ℕ) (f : Function) : Type 0 where
   pub there : slice_get script.functions number ≡ Some f
   pub ranked : IsRanked (length script.sorts) f
+
+-- A meaning that a macro keeps is in form.
+abbrev pub IsKeptBody : Script → MacroBody → Type 0
+IsKeptBody script (body.Meaning m) = IsRead script [] 0 m
+IsKeptBody script (body.Tree t) = Unit {0}
 
 -- A macro reads values as something in form.
 abbrev pub IsReader : Script → Reader → Type 0

@@ -16,8 +16,12 @@ use Rattle.mbqi_terms.specs.declared.sort.Sort.{Sort}
 use Rattle.mbqi_terms.specs.declared.sort.Sort.TheVariants as sort
 use Rattle.sexpr_text.specs.declared.tree.Form.{Form}
 use Rattle.sexpr_text.specs.declared.tree.Sexpr.{Sexpr}
-use Rattle.smtlib_terms.specs.Declaring.{Declarations, declarations_of, formula_read, is_first_order, is_function}
+use Rattle.smtlib_terms.specs.declared.meaning.Meaning.{Meaning}
+use Rattle.smtlib_terms.specs.declared.names.Definition.{Definition}
+use Rattle.smtlib_terms.specs.declared.names.Macro.{Macro}
+use Rattle.smtlib_terms.specs.Declaring.{Declarations, body_meant, declarations_of, formula_read, is_first_order, is_function, kept_body, macro_of}
 use Rattle.mbqi_terms.specs.Depth.{depth_of_formula}
+use Rattle.mbqi_terms.specs.Sort.{is_array}
 use Rattle.smtlib_terms.specs.Words.{is_one_of}
 use Rattle.smtlib_names.proofs.Named.{any_function}
 use Rattle.smtlib_decls.specs.declared.progress.Progress.{Progress}
@@ -26,17 +30,17 @@ use Rattle.smtlib_decls.specs.Scripts.{behind_form, is_exit, nothing, script_fro
 use Rattle.mbqi_terms.specs.InForm.{DifferInLabels, IsRanked, IsResultSort, IsVariableSort}
 use Rattle.smtlib_terms.specs.InForm.{AreNamed, IsFormula, IsInForm, IsName}
 use Rattle.smtlib_terms.proofs.Tests.{all_get}
-use Rattle.read_in_form.proofs.Placed.{IsFunction}
+use Rattle.read_in_form.proofs.Placed.{IsFunction, IsKeptBody}
 use Rattle.read_in_form.proofs.CommandSteps.{IsLegalText, IsNamedSort, IsNewFunction, IsStep, command_steps, with_question}
 use Rattle.read_in_form.proofs.LegalNames.{IsLegalForm}
 use Rattle.read_in_form.proofs.OneMore.{all_more, get_before, labels_differ, names_differ}
 use Rattle.read_in_form.proofs.SortsRead.{sort_read_is}
-use Rattle.mbqi_terms.specs.Sort.{is_array}
 
 -- What was declared so far is a first part of the script.
 pub record IsPart (script : Script) (d : Declarations) : Type 0 where
   pub sorts : length d.sorts ≤ length script.sorts
   pub functions : (i : ℕ) (f : Function) → slice_get d.functions i ≡ Some f → IsFunction script i f
+  pub macros : All (λ (m : Macro). IsKeptBody script m.body) d.macros
 
 -- Declarations before others.
 record IsBefore (d after : Declarations) : Type 0 where
@@ -56,7 +60,7 @@ step_grows : (p next : Progress) → IsStep p next → IsBefore p.names next.nam
 step_grows p next (IsStep.passed_over) = own_before p.names
 step_grows p next (IsStep.sort name new) = record { sorts = omega (arith, length-append p.names.sorts (name ∷ [])); functions = λ i f e. e }
 step_grows p next (IsStep.function f new) = record { sorts = omega arith; functions = λ i g e. get_before p.names.functions f i g e }
-step_grows p next (IsStep.definition m) = record { sorts = omega arith; functions = λ i f e. e }
+step_grows p next (IsStep.definition given m read) = record { sorts = omega arith; functions = λ i f e. e }
 step_grows p next (IsStep.assertion label f new) = own_before p.names
 step_grows p next (IsStep.question) = own_before p.names
 
@@ -147,10 +151,33 @@ quantifier_free_named a b sorts functions named = record {
   functions_differ = subst (λ (fs : List Function). AreDistinct (map (λ (f : Function). f.name) fs)) functions named.functions_differ;
 }
 
+-- What was read so far is a first part of the script.
+part_so_far : (script : Script) (p : Progress) → length p.names.sorts ≤ length script.sorts → ((i : ℕ) (f : Function) → slice_get p.names.functions i ≡ Some f → slice_get script.functions i ≡ Some f) →
+    IsKept script (script_of p) → All (λ (m : Macro). IsKeptBody script m.body) p.names.macros → IsPart script p.names
+part_so_far script p sorts functions kept macros = record {
+  sorts = sorts;
+  functions = λ i g e. record { there = functions i g e; ranked = all_get (IsRanked (length script.sorts)) p.names.functions i g kept.ranked e };
+  macros = macros;
+}
+
+-- What is kept of definitions is in form.
+abbrev pub KeepsBodies : Script → Type 0
+KeepsBodies script = (d : Declarations) (given : Definition) (m : Meaning) → IsPart script d → body_meant d given ≡ Ok m → IsKeptBody script (kept_body given.parameters given.body m)
+
+macros_keep : (script : Script) (p next : Progress) → KeepsBodies script → IsStep p next → IsBefore next.names (declarations_of script) → IsKept script (script_of p) → All (λ (m : Macro). IsKeptBody script m.body) p.names.macros → All (λ (m : Macro). IsKeptBody script m.body) next.names.macros
+macros_keep script p next bodies (IsStep.passed_over) before kept macros = macros
+macros_keep script p next bodies (IsStep.sort name new) before kept macros = macros
+macros_keep script p next bodies (IsStep.function f new) before kept macros = macros
+macros_keep script p next bodies (IsStep.definition given m read) before kept macros =
+    all_more (λ (m : Macro). IsKeptBody script m.body) p.names.macros (macro_of given m) macros
+    (bodies p.names given m (part_so_far script p before.sorts before.functions kept macros) read)
+macros_keep script p next bodies (IsStep.assertion label f new) before kept macros = macros
+macros_keep script p next bodies (IsStep.question) before kept macros = macros
+
 -- Each step keeps what holds.
-step_keeps : (script : Script) (p next : Progress) → IsStep p next → IsBefore next.names (declarations_of script) → IsKept script (script_of p) → IsKept script (script_of next)
-step_keeps script p next (IsStep.passed_over) before kept = kept
-step_keeps script p next (IsStep.sort name new) before kept = record {
+step_keeps : (script : Script) (p next : Progress) → IsStep p next → IsBefore next.names (declarations_of script) → IsKept script (script_of p) → All (λ (m : Macro). IsKeptBody script m.body) p.names.macros → IsKept script (script_of next)
+step_keeps script p next (IsStep.passed_over) before kept macros = kept
+step_keeps script p next (IsStep.sort name new) before kept macros = record {
   named = record {
     sorts = all_more IsName p.names.sorts name kept.named.sorts (record { legal = new.legal; free = new.free });
     functions = kept.named.functions;
@@ -161,7 +188,7 @@ step_keeps script p next (IsStep.sort name new) before kept = record {
   given = kept.given;
   labels = kept.labels;
 }
-step_keeps script p next (IsStep.function f new) before kept =
+step_keeps script p next (IsStep.function f new) before kept macros =
     let names = map (λ (f : Function). f.name) p.names.functions in
     let more = more_names p.names.functions f in
     record {
@@ -175,12 +202,9 @@ step_keeps script p next (IsStep.function f new) before kept =
       given = kept.given;
       labels = kept.labels;
     }
-step_keeps script p next (IsStep.definition m) before kept = record { named = kept.named; ranked = kept.ranked; given = kept.given; labels = kept.labels }
-step_keeps script p next (IsStep.assertion label f new) before kept =
-    let part : IsPart script p.names = record {
-      sorts = before.sorts;
-      functions = λ i g e. record { there = before.functions i g e; ranked = all_get (IsRanked (length script.sorts)) p.names.functions i g kept.ranked e };
-    } in
+step_keeps script p next (IsStep.definition given m read) before kept macros = record { named = kept.named; ranked = kept.ranked; given = kept.given; labels = kept.labels }
+step_keeps script p next (IsStep.assertion label f new) before kept macros =
+    let part : IsPart script p.names = part_so_far script p before.sorts before.functions kept macros in
     record {
       named = quantifier_free_named (script_of p) (script_of (with_assertion p label f)) refl refl kept.named;
       ranked = kept.ranked;
@@ -188,16 +212,18 @@ step_keeps script p next (IsStep.assertion label f new) before kept =
           (record { declarations = p.names; tree = new.tree; part = part; read = new.read; label = new.legal });
       labels = labels_differ p.assertions (record { label = label; formula = f }) kept.labels new.new;
     }
-step_keeps script p next (IsStep.question) before kept = record { named = quantifier_free_named (script_of p) (script_of (with_question p)) refl refl kept.named; ranked = kept.ranked; given = kept.given; labels = kept.labels }
+step_keeps script p next (IsStep.question) before kept macros = record { named = quantifier_free_named (script_of p) (script_of (with_question p)) refl refl kept.named; ranked = kept.ranked; given = kept.given; labels = kept.labels }
 
 -- So it holds of the script.
-forms_keep : (script : Script) (forms : List Form) (p : Progress) → AllByRecursion IsLegalForm forms → script_from p forms ≡ Ok script → IsKept script (script_of p) → IsKept script script
-forms_keep script [] p legal e kept = subst (IsKept script) (same_script (script_of p) script e) kept
-forms_keep script (form ∷ forms) p legal e kept =
+forms_keep : (script : Script) (forms : List Form) (p : Progress) → KeepsBodies script → AllByRecursion IsLegalForm forms → script_from p forms ≡ Ok script → IsKept script (script_of p) → All (λ (m : Macro). IsKeptBody script m.body) p.names.macros → IsKept script script
+forms_keep script [] p bodies legal e kept macros = subst (IsKept script) (same_script (script_of p) script e) kept
+forms_keep script (form ∷ forms) p bodies legal e kept macros =
     elim (form_back (is_exit form.tree) form.from (command_meant p form.tree) (λ next. script_from next forms) (script_of p) script e) [
       | inl same ↦ subst (IsKept script) same kept
-      | inr more ↦ forms_keep script forms more.0 legal.1 more.2
-          (step_keeps script p more.0 (command_steps p form.tree more.0 legal.0 more.1) (script_grows forms more.0 script legal.1 more.2) kept)
+      | inr more ↦
+          let step = command_steps p form.tree more.0 legal.0 more.1 in
+          let before = script_grows forms more.0 script legal.1 more.2 in
+          forms_keep script forms more.0 bodies legal.1 more.2 (step_keeps script p more.0 step before kept macros) (macros_keep script p more.0 bodies step before kept macros)
     ]
 
 nothing_kept : (script : Script) → IsKept script (script_of nothing)
@@ -209,9 +235,9 @@ nothing_kept script = record {
 }
 
 pub script_in_form : (forms : List Form) (script : Script) → AllByRecursion IsLegalForm forms → script_meant forms ≡ Ok script →
-    ((d : Declarations) (t : Sexpr) (f : Formula) → IsPart script d → formula_read d t ≡ Ok f → IsFormula script [] 0 f × (depth_of_formula f ≤ 1000)) → IsInForm script
-script_in_form forms script legal e reads =
-    let kept = forms_keep script forms nothing legal e (nothing_kept script) in
+    ((d : Declarations) (t : Sexpr) (f : Formula) → IsPart script d → formula_read d t ≡ Ok f → IsFormula script [] 0 f × (depth_of_formula f ≤ 1000)) → KeepsBodies script → IsInForm script
+script_in_form forms script legal e reads bodies =
+    let kept = forms_keep script forms nothing bodies legal e (nothing_kept script) (All-nil (λ (m : Macro). IsKeptBody script m.body)) in
     record {
       named = kept.named;
       ranked = kept.ranked;

@@ -12,8 +12,8 @@ use Rattle.read_in_form.proofs.Placed.{IsFunction}
 use Rattle.smtlib_terms.specs.Names.{function_named}
 use Rattle.smtlib_terms.specs.Words.{is_text}
 use Rattle.read_in_form.proofs.LegalNames.{forms_legal}
-use Rattle.read_in_form.proofs.Macros.{formula_is_read}
-use Rattle.read_in_form.proofs.Progressing.{IsPart, script_in_form}
+use Rattle.read_in_form.proofs.Macros.{definition_is_kept, formula_is_read}
+use Rattle.read_in_form.proofs.Progressing.{IsPart, KeepsBodies, script_in_form}
 use Rattle.read_in_form.proofs.Steps.{first_or_rest}
 
 -- the function of a name stands at its number
@@ -32,13 +32,16 @@ found_at name at (f ∷ fs) number g found =
     (record { index = 0; place = omega arith; there = refl })
     (λ more. found_further at f fs number g (found_at name (at + 1) fs number g more)) found
 
-part_is_placed : (script : Script) (d : Declarations) (t : Sexpr) (f : Formula) → IsPart script d → formula_read d t ≡ Ok f → IsFormula script [] 0 f × (depth_of_formula f ≤ 1000)
-part_is_placed script d t f part read =
-    formula_is_read script d t f part.sorts
-    (λ name number g found.
+function_is : (script : Script) (d : Declarations) → IsPart script d → (name : List ℕ) (number : ℕ) (g : Function) → function_named name 0 d.functions ≡ Some (number, g) → IsFunction script number g
+function_is script d part name number g found =
     let at = found_at name 0 d.functions number g found in
-    subst (λ (n : ℕ). IsFunction script n g) (let place = at.place in let same : at.index ≡ number = omega arith in same) (part.functions at.index g at.there))
-    read
+    subst (λ (n : ℕ). IsFunction script n g) (let place = at.place in let same : at.index ≡ number = omega arith in same) (part.functions at.index g at.there)
+
+part_is_placed : (script : Script) (d : Declarations) (t : Sexpr) (f : Formula) → IsPart script d → formula_read d t ≡ Ok f → IsFormula script [] 0 f × (depth_of_formula f ≤ 1000)
+part_is_placed script d t f part read = formula_is_read script d t f part.sorts (function_is script d part) part.macros read
+
+part_keeps : (script : Script) → KeepsBodies script
+part_keeps script d given m part read = definition_is_kept script d given m part.sorts (function_is script d part) part.macros read
 
 pub read_in_form : (bytes : List ℕ) (script : Script) → Means bytes script → IsInForm script
-read_in_form bytes script means = script_in_form means.0 script (forms_legal bytes means.0 means.1) means.2 (part_is_placed script)
+read_in_form bytes script means = script_in_form means.0 script (forms_legal bytes means.0 means.1) means.2 (part_is_placed script) (part_keeps script)

@@ -21,12 +21,11 @@ use Rattle.sexpr_text.specs.declared.tree.Form.{Form}
 use Rattle.sexpr_text.specs.declared.tree.Sexpr.{Sexpr}
 use Rattle.sexpr_text.specs.declared.tree.Sexpr.TheBlock.{hidden-the_row-Sexpr-0}
 use Rattle.sexpr_text.specs.declared.tree.Sexpr.TheVariants as tree
-use Rattle.smtlib_terms.specs.Declaring.{formula_read, function_declared, sort_declared}
+use Rattle.smtlib_terms.specs.Declaring.{definition_parts, formula_read, function_declared, sort_declared}
 use Rattle.smtlib_terms.specs.Meaning.{shifted_formula, shifted_term}
 use Rattle.smtlib_terms.specs.Names.{sort_meant}
 use Rattle.smtlib_terms.specs.Reading.{side, trees_in}
 use Rattle.smtlib_terms.specs.Words.{word_of, is_reserved, is_reserved_word}
-use Rattle.term_reader.specs.Defining.{definition_parts}
 use Rattle.smtlib_decls.specs.Commands.{command_meant, command_of, constant_declared, definition_behind, function_command, signature_declared}
 use Rattle.smtlib_decls.specs.Labels.{label_of}
 use Rattle.smtlib_decls.specs.Means.{Refused}

@@ -7,11 +7,10 @@ use Rattle.mbqi_terms.specs.declared.formula.Formula.{Formula}
 use Rattle.mbqi_terms.specs.declared.sort.Sort.{Sort}
 use Rattle.sexpr_text.specs.declared.tree.Sexpr.{Sexpr}
 use Rattle.sexpr_text.specs.Trees.{numeral_in}
-use Rattle.smtlib_terms.specs.Declaring.{Declarations, formula_read, function_declared, macro_defined, sort_declared, sort_read}
+use Rattle.smtlib_terms.specs.Declaring.{Declarations, definition_parts, formula_read, function_declared, macro_defined, sort_declared, sort_read}
 use Rattle.smtlib_terms.specs.Names.{◌>>=◌}
 use Rattle.smtlib_terms.specs.Reading.{is_list, is_some_symbol, text_of, trees_in}
 use Rattle.smtlib_terms.specs.Words.{is_one_of, is_text, passed_over_words}
-use Rattle.term_reader.specs.Defining.{definition_parts}
 use Rattle.smtlib_decls.specs.declared.command.Command.{Command}
 use Rattle.smtlib_decls.specs.declared.command.Command.TheVariants as command
 use Rattle.smtlib_decls.specs.declared.progress.Progress.{Progress}

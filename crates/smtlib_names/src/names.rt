@@ -30,12 +30,12 @@ pub struct Names {
 
 impl Model for Names {
     ghost use Rattle.std.specs.Coded.{codes};
-    ghost use Rattle.sexpr_text.specs.contracts.tree.Sexpr as tree;
+    ghost use Rattle.smtlib_terms.specs.contracts.names.Macro as definition;
     ghost use Rattle.smtlib_terms.specs.Declaring.{Declarations};
 
     ghost Value = { Declarations };
 
-    ghost coded = { Prim.hlevel (codes, tree.the_row.coded) };
+    ghost coded = { Prim.hlevel (codes, definition.the_row.coded) };
 
     ghost use Rattle.smtlib_names.specs.Named.{AreNamed};
 
