@@ -269,7 +269,7 @@ fn is_refused(
 
 /// Texts that mean no script, with the places and kinds of their first faults. The first form without a meaning is refused at its first
 /// byte: the second of two forms behind a sort stands at 37 or 42, and one behind a constant and a predicate at 61.
-const FAULTY: [(&str, usize, FaultKind); 23] = [
+const FAULTY: [(&str, usize, FaultKind); 30] = [
     ("(declare-const c S)", 0, FaultKind::UnknownName),
     ("(declare-sort S 1)", 0, FaultKind::Unsupported),
     ("(declare-sort S)", 0, FaultKind::BadForm),
@@ -320,6 +320,29 @@ const FAULTY: [(&str, usize, FaultKind); 23] = [
     ("(check-sat 0)", 0, FaultKind::BadForm),
     ("(check-sat)(check-sat)", 11, FaultKind::Unsupported),
     ("(check-sat)(declare-sort S 0)", 11, FaultKind::Unsupported),
+    ("(check-sat)(assert 3)", 11, FaultKind::Unsupported),
+    ("(assert (! 3 :named a))", 0, FaultKind::WrongSort),
+    (
+        "(assert (! true :named a))(assert (! 3 :named a))",
+        26,
+        FaultKind::Twice,
+    ),
+    (
+        "(declare-const x Int)(assert (<= x 9223372036854775808))",
+        21,
+        FaultKind::NumeralTooWide,
+    ),
+    (
+        "(declare-sort S 0)(declare-const a (Array S Int))(assert (= (default a) 0))",
+        49,
+        FaultKind::Unsupported,
+    ),
+    (
+        "(declare-const b (Array Int Int))(assert (forall ((i Int)) (= b (store b i 0))))",
+        33,
+        FaultKind::BoundArray,
+    ),
+    ("(assert (p", 0, FaultKind::Unclosed),
     ("check-sat", 0, FaultKind::BadForm),
     ("()", 0, FaultKind::BadForm),
     ("(check-sat", 0, FaultKind::Unclosed),
@@ -333,6 +356,80 @@ fn faulty_scripts_are_refused_at_their_place(rt: HostRuntime) -> Result<(), Fail
     for (script, at, kind) in FAULTY {
         assert!(rt; is_refused(alloc, SOLVE, script, at, kind)?, "{script}");
         assert!(rt; is_refused(alloc, PRINT, script, at, kind)?, "{script}");
+    }
+    Ok(())
+}
+
+/// The text with so many applications of a word around it.
+fn around(alloc: Global, word: &str, count: usize, inner: &str) -> Result<String, AllocError> {
+    let mut text = String::new(alloc);
+    for _application in 0..count {
+        text.push('(')?;
+        text.push_str(word)?;
+        text.push(' ')?;
+    }
+    text.push_str(inner)?;
+    for _application in 0..count {
+        text.push(')')?;
+    }
+    Ok(text)
+}
+
+/// A script in which `(t x)` is 27 times so many applications of `f` around x, and so one deeper than these, and `q` an implication of
+/// so many formulas, the last one with a quantifier, which is one deeper than they are many. An assertion follows, with its place.
+fn deep_script(
+    alloc: Global,
+    applications: usize,
+    formulas: usize,
+    asserted: &str,
+) -> Result<(String, usize), AllocError> {
+    let mut text = String::new(alloc);
+    text.push_str("(declare-fun f (Int) Int)(declare-const c Int)(declare-const a (Array Int Int))")?;
+    text.push_str("(define-fun g ((x Int)) Int ")?;
+    text.push_str(&around(alloc, "f", 27, "x")?)?;
+    text.push_str(")(define-fun t ((x Int)) Int ")?;
+    text.push_str(&around(alloc, "g", applications, "x")?)?;
+    text.push_str(")(define-fun q () Bool (=>")?;
+    for _formula in 1..formulas {
+        text.push_str(" true")?;
+    }
+    text.push_str(" (forall ((i Int)) true)))")?;
+    let at = text.len();
+    text.push_str(asserted)?;
+    Ok((text, at))
+}
+
+/// Assertions with a fault of the node around `t` or `q`.
+const DEEP: [(&str, FaultKind); 6] = [
+    (
+        "(assert (<= c (+ (t c) 576460752303423489)))",
+        FaultKind::OffsetTooWide,
+    ),
+    (
+        "(assert (<= (- c (t c)) 576460752303423489))",
+        FaultKind::OffsetTooWide,
+    ),
+    ("(assert (= q q))", FaultKind::QuantifierPlace),
+    ("(assert (ite q true false))", FaultKind::QuantifierPlace),
+    (
+        "(assert (forall ((x Int)) (= a (store a (t x) 0))))",
+        FaultKind::BoundArray,
+    ),
+    (
+        "(assert (forall ((x Int)) (= a ((as const (Array Int Int)) (t x)))))",
+        FaultKind::BoundArray,
+    ),
+];
+
+// Where `t` and `q` are 1,000 deep, the node around them is too deep. With 27 applications and one formula less the other fault counts.
+#[test]
+fn depth_is_judged_before_other_faults_of_a_node(rt: HostRuntime) -> Result<(), Fail> {
+    let alloc = rt.alloc();
+    for (asserted, kind) in DEEP {
+        let (deep, at) = deep_script(alloc, 37, 999, asserted)?;
+        assert!(rt; is_refused(alloc, PRINT, &deep, at, FaultKind::TooDeep)?, "{asserted}");
+        let (shallow, at) = deep_script(alloc, 36, 998, asserted)?;
+        assert!(rt; is_refused(alloc, PRINT, &shallow, at, kind)?, "{asserted}");
     }
     Ok(())
 }

@@ -25,11 +25,12 @@ use Rattle.smtlib_decls.specs.declared.command.Command.{Command}
 use Rattle.smtlib_decls.specs.declared.command.Command.TheVariants as command
 use Rattle.smtlib_decls.specs.declared.progress.Progress.{Progress}
 use Rattle.smtlib_printer.specs.Names.{marks_of}
+use Rattle.smtlib_terms.specs.declared.meaning.Meaning.{Meaning}
 use Rattle.smtlib_terms.specs.declared.meaning.Meaning.TheVariants as meaning
 use Rattle.smtlib_terms.specs.declared.word.Word.TheVariants as word
 use Rattle.smtlib_terms.specs.declared.meaning.Side.{Side}
 use Rattle.mbqi_terms.specs.Depth.{depth_of_formula}
-use Rattle.smtlib_terms.specs.Declaring.{declarations_of, formula_read, sort_read}
+use Rattle.smtlib_terms.specs.Declaring.{declarations_of, formula_read, sort_read, term_read}
 use Rattle.smtlib_terms.specs.Names.{◌>>=◌}
 use Rattle.smtlib_terms.specs.Operators.{meant, plainly}
 use Rattle.smtlib_terms.specs.Reading.{is_list, trees_in}
@@ -41,7 +42,7 @@ use Rattle.printed_trees.specs.Names.{AreToldApart, HasFewVariables, signature_o
 use Rattle.printed_trees.proofs.ReadParts.{word_means}
 use Rattle.printed_trees.specs.Means as tree_means
 use Rattle.printed_trees.specs.Trees.{assertion_command, formula_tree, function_command, labelled_tree, question_commands, script_trees, sort_command, sort_tree, word_tree}
-use Rattle.printed_trees.proofs.Assertions.{read_as, told_apart}
+use Rattle.printed_trees.proofs.Assertions.{closed_as, told_apart}
 use Rattle.printed_trees.proofs.ReadFormulas.{formula_means}
 use Rattle.printed_trees.proofs.ScriptTexts.{IsWritable, assertions_are, script_forms}
 use Rattle.printed_script.proofs.Declarations.{args_mean, function_is_new, result_means, sort_is_new}
@@ -155,10 +156,10 @@ one_assertion script done a rest told is differ =
     let p = asserted_done script done in
     let marks = marks_of script in
     let t = labelled_tree a.label (formula_tree script marks a.formula) in
-    let read = read_as script t a.formula (labelled_means script a.label (formula_tree script marks a.formula) a.formula (formula_means script marks told [] tt 0 a.formula is.asserted.formula is.small is.asserted.depth) is.asserted.depth) in
+    let read = closed_as script t (meaning.Formula a.formula) (labelled_means script a.label (formula_tree script marks a.formula) a.formula (formula_means script marks told [] tt 0 a.formula is.asserted.formula is.small is.asserted.depth) is.asserted.depth) in
     command_by p (codes "assert") command.Assert (t ∷ []) assert_is_command
-    ∙ (ap (λ (r : Result (Option (List ℕ)) FaultKind). r >>= (λ (label : Option (List ℕ)). formula_read p.names t >>= (λ (f : Formula). asserted p label f))) (label_is script marks told a.label a.formula is.asserted.formula)
-    ∙ (ap (λ (r : Result Formula FaultKind). r >>= (λ (f : Formula). asserted p a.label f)) read
+    ∙ (ap (λ (r : Result (Option (List ℕ)) FaultKind). r >>= (λ (label : Option (List ℕ)). term_read p.names t >>= asserted p label)) (label_is script marks told a.label a.formula is.asserted.formula)
+    ∙ (ap (λ (r : Result Meaning FaultKind). r >>= asserted p a.label) read
     ∙ ap (λ (b : Bool). cond b (Err Twice) (Ok (with_assertion p a.label a.formula))) (not_taken done a rest differ)))
 
 all_assertions : (script : Script) (done rest : List Assertion) → AreToldApart script (marks_of script) → AllByRecursion (IsWritable script) rest → DifferInLabels (done ++ rest) →

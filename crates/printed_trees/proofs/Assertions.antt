@@ -12,9 +12,10 @@ use Rattle.sexpr_text.proofs.ReadBack.{read_back}
 use Rattle.smtlib_printer.specs.Names.{marks_of}
 use Rattle.smtlib_printer.specs.Text.{formula_text}
 use Rattle.smtlib_printer.proofs.Longest.{marks_free, some_marks}
+use Rattle.smtlib_terms.specs.declared.meaning.Meaning.{Meaning}
 use Rattle.smtlib_terms.specs.declared.meaning.Meaning.TheVariants as meaning
 use Rattle.smtlib_terms.specs.declared.meaning.Side.{Side}
-use Rattle.smtlib_terms.specs.Declaring.{declarations_of, formula_read}
+use Rattle.smtlib_terms.specs.Declaring.{declarations_of, formula_read, term_read}
 use Rattle.mbqi_terms.specs.Depth.{depth_of_formula}
 use Rattle.smtlib_terms.specs.Names.{◌>>=◌}
 use Rattle.smtlib_terms.specs.Operators.{as_formula, plainly}
@@ -40,7 +41,11 @@ assertion_form script f named is small shallow =
     subst (λ (text : List ℕ). HaveForms text (forms_at 0 (formula_tree script (marks_of script) f ∷ []))) (assertion_spelled script f named is small)
     (read_back (formula_tree script (marks_of script) f) (assertion_legal script f named is small) shallow)
 
--- a tree that means a formula is read as it
+-- a tree that means something is read as it, and one that means a formula as this
+pub closed_as : (script : Script) (t : Sexpr) (m : Meaning) → Means t (signature_of script) [] 0 m → term_read (declarations_of script) t ≡ Ok m
+unfolding term_read
+closed_as script t m is = ap (λ (r : Result Side FaultKind). r >>= plainly) is
+
 pub read_as : (script : Script) (t : Sexpr) (f : Formula) → Means t (signature_of script) [] 0 (meaning.Formula f) → formula_read (declarations_of script) t ≡ Ok f
 unfolding formula_read
 read_as script t f is = ap (λ (r : Result Side FaultKind). r >>= plainly >>= as_formula) is

@@ -1,5 +1,6 @@
 -- What operators make of what terms mean.
 use Rattle.std.proofs.Common.{◌≡◌, ◌≢◌, zero, suc, ◌^◌, ℤ, pos, negsuc, Bool, true, false, cond, List, [], ◌∷◌, length, map, Some, None, Result, Ok, Err, refl, ap, ◌∙◌}
+use Rattle.std.specs.Prelude.{not}
 use Rattle.std.proofs.Math.IntN.{+ℤ_idl}
 use Rattle.mbqi_values.specs.declared.fault.FaultKind.{FaultKind}
 use Rattle.mbqi_values.specs.declared.fault.FaultKind.TheVariants.{OffsetTooWide}
@@ -22,9 +23,11 @@ use Rattle.smtlib_terms.specs.Applying.{are_over, arrays_of, have_sorts, terms_o
 use Rattle.mbqi_terms.specs.Varies.{varies}
 use Rattle.smtlib_terms.specs.Names.{◌>>=◌}
 use Rattle.smtlib_terms.specs.Number.{Sum, plus_number, sum_of, sum_of_terms, summed}
-use Rattle.smtlib_terms.specs.Operators.{addition, as_plain, constant, defaulting, integer_meant, selection, storing, term_meant, unbound}
+use Rattle.smtlib_terms.specs.Operators.{addition, as_plain, constant, defaulting, integer_meant, selection, storing, term_meant, unbound, is_wide_term}
 use Rattle.mbqi_terms.specs.HasSort.{AreArraysIn, HasSortIn, HaveSortsIn, IsIndexSort, IsNoTruth}
 use Rattle.smtlib_terms.specs.InForm.{AreArrays, HasSort, HaveSorts}
+use Rattle.mbqi_terms.specs.Depth.{depth_of_term}
+use Rattle.smtlib_terms.specs.Meaning.{unless_deep}
 use Rattle.printed_trees.proofs.Depths.{meant_sort}
 use Rattle.printed_trees.proofs.ReadNames.{own_plain, own_sort}
 use Rattle.mbqi_terms.specs.Sort.{plain_sort}
@@ -45,15 +48,15 @@ meanings_sorts script scope ts ss HaveSortsIn.no_terms = refl
 meanings_sorts script scope ts ss (HaveSortsIn.more_terms t us s rs index h hs) =
     rw (meant_sort s t, own_sort s) (meanings_sorts script scope us rs hs)
 
-first_term : (script : Script) (s : Plain) (t : Term) (ms : List Meaning) → IsIndexSort (length script.sorts) s → terms_of (term_meant s t ∷ ms) ≡ t ∷ terms_of ms
+first_term : (script : Script) (s : Plain) (t : Term) (ms : List Meaning) → IsIndexSort (length script.sorts) s → terms_of (term_meant s t ∷ ms) ≡ terms_of ms >>= (λ ts. Ok (t ∷ ts))
 first_term script plain.Truth t ms is = absurd is
 first_term script plain.Int t ms is = refl
 first_term script (plain.Elem s) t ms is = refl
 
-pub meanings_terms : (script : Script) (scope : List Binder) (ts : List Term) (ss : List Plain) → HaveSorts script scope ts ss → terms_of (meanings_of ts ss) ≡ ts
+pub meanings_terms : (script : Script) (scope : List Binder) (ts : List Term) (ss : List Plain) → HaveSorts script scope ts ss → terms_of (meanings_of ts ss) ≡ Ok ts
 meanings_terms script scope ts ss HaveSortsIn.no_terms = refl
 meanings_terms script scope ts ss (HaveSortsIn.more_terms t us s rs index h hs) =
-    first_term script s t (meanings_of us rs) index ∙ ap (λ (more : List Term). t ∷ more) (meanings_terms script scope us rs hs)
+    first_term script s t (meanings_of us rs) index ∙ ap (λ (r : Result (List Term) FaultKind). r >>= (λ (more : List Term). Ok (t ∷ more))) (meanings_terms script scope us rs hs)
 
 -- a term in the place of its sort
 pub index_plainly : (script : Script) (i : Plain) (t : Term) → IsIndexSort (length script.sorts) i → as_plain i (term_meant i t) ≡ Ok t
@@ -125,6 +128,21 @@ pub arrays_terms : (script : Script) (scope : List Binder) (arrays : List ArrayT
 arrays_terms script scope arrays i es (AreArraysIn.no_arrays j) = refl
 arrays_terms script scope arrays i es (AreArraysIn.more_arrays a bs j e gs h hs) = ap (λ (more : List ArrayTerm). a ∷ more) (arrays_terms script scope bs j gs hs)
 
+-- numbers within their limits
+pub narrow_term : (script : Script) (scope : List Binder) (t : Term) (s : Plain) → HasSort script scope t s → is_wide_term t ≡ false
+unfolding hidden-the_row-Term-1 hidden
+narrow_term script scope t s (HasSortIn.number n within) = ap not within
+narrow_term script scope t s (HasSortIn.sum u n h base some within) = ap not within
+narrow_term script scope t s (HasSortIn.variable place e index found) = refl
+narrow_term script scope t s (HasSortIn.application f ts args e d hs) = refl
+narrow_term script scope t s (HasSortIn.reading a u i e h index g) = refl
+narrow_term script scope t s (HasSortIn.last a e h closed) = refl
+narrow_term script scope t s (HasSortIn.truth b) = refl
+narrow_term script scope t s (HasSortIn.skolem assertion place ts args e hides d hs) = refl
+narrow_term script scope t s (HasSortIn.seed k hides below) = refl
+narrow_term script scope t s (HasSortIn.far hides) = refl
+narrow_term script scope t s (HasSortIn.differing a b i e hides index ha hb) = refl
+
 -- sums
 base_sum : (script : Script) (scope : List Binder) (t : Term) (s : Plain) → HasSort script scope t s → IsBase (out-Term t) → sum_of t ≡ record { base = Some t; number = pos 0 }
 unfolding hidden-the_row-Term-1 hidden out-Term denote.Hole.Carrier.out
@@ -150,5 +168,5 @@ pub addition_ok : (script : Script) (scope : List Binder) (t : Term) (n : ℤ) �
 addition_ok script scope t n h base some within =
     ap (λ (u : Sum). integer_meant (sum_of_terms (u ∷ record { base = None; number = n } ∷ []))) (base_sum script scope t plain.Int h base)
     ∙ (ap (λ (m : ℤ). integer_meant (summed (Some t) m)) (+ℤ_idl n)
-    ∙ (ap (λ (b : Bool). integer_meant (cond b (Ok (plus_number t n)) (Err OffsetTooWide))) within
+    ∙ (ap (λ (b : Bool). integer_meant (cond b (Ok (plus_number t n)) (Err (unless_deep OffsetTooWide (depth_of_term (plus_number t n)))))) within
     ∙ ap (λ (u : Term). Ok (meaning.Term sort.Int u)) (plus_some t n some)))

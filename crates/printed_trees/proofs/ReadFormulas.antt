@@ -1,5 +1,5 @@
 -- The S-expression of a formula in form means it.
-use Rattle.std.proofs.Common.{◌≡◌, ◌≤◌, ℕ, ◌+◌, Bool, cond, List, [], ◌∷◌, ◌++◌, length, map, Result, Ok, Err, refl, ap, ◌∙◌, subst, arith}
+use Rattle.std.proofs.Common.{◌≡◌, ◌≤◌, ℕ, ◌+◌, Bool, false, cond, List, [], ◌∷◌, ◌++◌, length, map, Result, Ok, Err, refl, ap, ◌∙◌, subst, arith}
 use Rattle.std.specs.Prelude.{codes}
 use Rattle.mbqi_values.specs.declared.fault.FaultKind.{FaultKind}
 use Rattle.mbqi_values.specs.declared.fault.FaultKind.TheVariants.{WrongCount}
@@ -17,7 +17,7 @@ use Rattle.smtlib_terms.specs.declared.meaning.Meaning.TheVariants as meaning
 use Rattle.smtlib_terms.specs.declared.word.Word.TheVariants as word
 use Rattle.mbqi_terms.specs.Depth.{deepest, depth_of_formula}
 use Rattle.smtlib_terms.specs.Names.{◌>>=◌}
-use Rattle.smtlib_terms.specs.Operators.{applied, as_formulas, connective, formula_meant, joined, meant, term_meant}
+use Rattle.smtlib_terms.specs.Operators.{applied, as_formulas, connective, formula_meant, is_wide_term, joined, meant, term_meant}
 use Rattle.smtlib_terms.specs.Reading.{part_of, parts_read}
 use Rattle.measured_terms.proofs.FormulaLaws as measure
 use Rattle.mbqi_terms.specs.HasSort.{IsIndexSort}
@@ -31,6 +31,7 @@ use Rattle.printed_trees.proofs.Places.{HaveSmallPlaces, in_all, in_any, in_choo
 use Rattle.printed_trees.proofs.Scopes.{bound_small}
 use Rattle.printed_trees.specs.Trees.{array_tree, binders_tree, formula_tree, term_tree}
 use Rattle.printed_trees.proofs.Depths.{first_deep, rest_deep}
+use Rattle.printed_trees.proofs.Meanings.{narrow_term}
 use Rattle.printed_trees.proofs.ReadBinders.{binders_own, quantifier_ok}
 use Rattle.printed_trees.proofs.ReadNames.{own_plain, own_sort}
 use Rattle.printed_trees.proofs.ReadTerms.{Reads, array_means, at_tree, atom_means, index_means}
@@ -39,10 +40,15 @@ use Rattle.printed_trees.proofs.Words.{and_word, at_most_word, equal_word, exist
 use Rattle.mbqi_terms.specs.Binders.{variables_in}
 
 -- what the operators make of their arguments
-equal_ok : (script : Script) (e : Plain) (s t : Term) → IsIndexSort (length script.sorts) e → applied word.Equal (term_meant e s ∷ term_meant e t ∷ []) ≡ Ok (meaning.Formula (formula.Equal s t))
-equal_ok script plain.Truth s t is = absurd is
-equal_ok script plain.Int s t is = refl
-equal_ok script (plain.Elem k) s t is = rw (own_sort (plain.Elem k)) refl
+equal_ok : (script : Script) (e : Plain) (s t : Term) → IsIndexSort (length script.sorts) e → is_wide_term s ≡ false → is_wide_term t ≡ false →
+    applied word.Equal (term_meant e s ∷ term_meant e t ∷ []) ≡ Ok (meaning.Formula (formula.Equal s t))
+equal_ok script plain.Truth s t is ns nt = absurd is
+equal_ok script plain.Int s t is ns nt = rw (ns, nt) refl
+equal_ok script (plain.Elem k) s t is ns nt = rw (own_sort (plain.Elem k)) refl
+
+at_most_ok : (s t : Term) → is_wide_term s ≡ false → is_wide_term t ≡ false →
+    applied word.AtMost (meaning.Term sort.Int s ∷ meaning.Term sort.Int t ∷ []) ≡ Ok (meaning.Formula (formula.AtMost s t))
+at_most_ok s t ns nt = rw (ns, nt) refl
 
 same_ok : (i e : Plain) (a b : ArrayTerm) → applied word.Equal (meaning.Array i e a ∷ meaning.Array i e b ∷ []) ≡ Ok (meaning.Formula (formula.SameArray a b))
 same_ok i e a b = rw (own_plain i, own_plain e) refl
@@ -84,14 +90,15 @@ module _ (script : Script) where
         (word_means (codes "=") word.Equal (term_tree script marks s ∷ term_tree script marks t ∷ []) _ _ n (meaning.Formula (formula.Equal s t)) equal_word
         (ap meant (sides_read word.Equal (term_tree script marks s) (term_tree script marks t) _ _ n (term_meant e s) (term_meant e t)
         (index_means script marks told sc small n s e index hs (omega arith)) (index_means script marks told sc small _ t e index ht (omega arith))
-        ∙ equal_ok script e s t index))
+        ∙ equal_ok script e s t index (narrow_term script sc s e hs) (narrow_term script sc t e ht)))
         deep)
     formula_means marks told scope small next f (IsPlaced.at_most sc n s t hs ht) within deep =
         let below = measure.depth-AtMost s t in
         at_tree _ _ _ _ _ _ (tree_law.formula-AtMost script marks s t)
         (word_means (codes "<=") word.AtMost (term_tree script marks s ∷ term_tree script marks t ∷ []) _ _ n (meaning.Formula (formula.AtMost s t)) at_most_word
         (ap meant (sides_read word.AtMost (term_tree script marks s) (term_tree script marks t) _ _ n (meaning.Term sort.Int s) (meaning.Term sort.Int t)
-        (index_means script marks told sc small n s plain.Int tt hs (omega arith)) (index_means script marks told sc small _ t plain.Int tt ht (omega arith))))
+        (index_means script marks told sc small n s plain.Int tt hs (omega arith)) (index_means script marks told sc small _ t plain.Int tt ht (omega arith))
+        ∙ at_most_ok s t (narrow_term script sc s plain.Int hs) (narrow_term script sc t plain.Int ht)))
         deep)
     formula_means marks told scope small next f (IsPlaced.same sc n a b i e ha hb) within deep =
         let below = measure.depth-SameArray a b in

@@ -1,7 +1,8 @@
 -- How the names of functions and variables read.
-use Rattle.std.proofs.Common.{◌≡◌, ◌<◌, ℕ, zero, suc, true, false, eqb, List, [], length, Option, Some, slice_get, Ok, refl, ap, ◌∙◌, arith}
+use Rattle.std.proofs.Common.{◌≡◌, ◌<◌, ℕ, zero, suc, true, false, eqb, List, [], length, Option, Some, slice_get, Result, Ok, refl, ap, ◌∙◌, arith}
 use Rattle.std.specs.Prelude.{codes}
 use Rattle.std.proofs.lemmas.Bool.Decides.{nat_tests}
+use Rattle.mbqi_values.specs.declared.fault.FaultKind.{FaultKind}
 use Rattle.mbqi_terms.specs.declared.script.Function.{Function}
 use Rattle.mbqi_terms.specs.declared.script.Script.{Script}
 use Rattle.mbqi_terms.specs.declared.sort.Binder.{Binder}
@@ -9,6 +10,7 @@ use Rattle.mbqi_terms.specs.declared.sort.Plain.{Plain}
 use Rattle.mbqi_terms.specs.declared.sort.Plain.TheVariants as plain
 use Rattle.mbqi_terms.specs.declared.sort.Sort.{Sort}
 use Rattle.mbqi_terms.specs.declared.term.Symbol.TheVariants as symbol
+use Rattle.mbqi_terms.specs.declared.term.Term.{Term}
 use Rattle.mbqi_terms.specs.declared.term.Term.TheVariants as term
 use Rattle.sexpr_text.specs.declared.tree.Sexpr.TheVariants as tree
 use Rattle.smtlib_printer.specs.Names.{name_in, variable_text}
@@ -16,7 +18,7 @@ use Rattle.smtlib_terms.specs.declared.meaning.Bound.{Bound}
 use Rattle.smtlib_terms.specs.declared.meaning.Meaning.{Meaning}
 use Rattle.smtlib_terms.specs.declared.meaning.Meaning.TheVariants as meaning
 use Rattle.smtlib_terms.specs.declared.meaning.Side.TheVariants.{Meant}
-use Rattle.smtlib_terms.specs.Applying.{application, bound_applied, fitting, function_applied, have_sorts, name_applied, terms_of}
+use Rattle.smtlib_terms.specs.Applying.{application, bound_applied, fitting, function_applied, have_sorts, name_applied, application_of}
 use Rattle.smtlib_terms.specs.Operators.{meant, term_meant}
 use Rattle.smtlib_terms.specs.Reading.{side, symbol}
 use Rattle.smtlib_terms.specs.Words.{is_reserved_word}
@@ -45,20 +47,20 @@ own_sort plain.Int = refl
 own_sort (plain.Elem s) = eqb_own s
 
 -- the application of a function by the sort of its result
-pub application_is : (f : ℕ) (args : List Meaning) (s : Plain) → application f args (plain_sort s) ≡ term_meant s (term.Apply (symbol.Declared f) (terms_of args))
+pub application_is : (f : ℕ) (args : List Term) (s : Plain) → application f args (plain_sort s) ≡ term_meant s (term.Apply (symbol.Declared f) args)
 application_is f args plain.Truth = refl
 application_is f args plain.Int = refl
 application_is f args (plain.Elem s) = refl
 
 -- a name of a function, with arguments of its sorts
 pub name_fits : (script : Script) (marks : ℕ) (told : AreToldApart script marks) (scope : List Binder) (small : AreSmall scope) (next number : ℕ) (f : Function) (args : List Meaning) →
-    slice_get script.functions number ≡ Some f → name_applied (signature_of script) (bindings_of marks scope) f.name next args ≡ fitting f.args args (Ok (application number args f.result))
+    slice_get script.functions number ≡ Some f → name_applied (signature_of script) (bindings_of marks scope) f.name next args ≡ fitting f.args args (application_of number f.result args)
 name_fits script marks told scope small next number f args e =
     let is = function_found script marks number f told e in
     ap (bound_applied (signature_of script) f.name next args) (is.unbound scope small) ∙ ap (function_applied args) is.found
 
-pub fitting_ok : (sorts : List Sort) (args : List Meaning) (m : Meaning) → length args ≡ length sorts → have_sorts sorts args ≡ true → fitting sorts args (Ok m) ≡ Ok m
-fitting_ok sorts args m e f =
+pub fitting_ok : (sorts : List Sort) (args : List Meaning) (r : Result Meaning FaultKind) → length args ≡ length sorts → have_sorts sorts args ≡ true → fitting sorts args r ≡ r
+fitting_ok sorts args r e f =
     let same : eqb (length args) (length sorts) ≡ true = grind (arith, nat_tests) in
     rw (same, f) refl
 
@@ -86,7 +88,7 @@ constant_means script marks told scope small next number result d =
     ap (λ (o : Option Function). side (tree.Symbol (name_in o)) (signature_of script) (bindings_of marks scope) next) d.there
     ∙ (side-Symbol d.function.name (signature_of script) (bindings_of marks scope) next
     ∙ (ap meant (name_alone script marks told scope next d.function.name is.no_word ∙ name_fits script marks told scope small next number d.function [] d.there)
-    ∙ (ap (λ (sorts : List Sort). meant (fitting sorts [] (Ok (application number [] d.function.result)))) d.takes
+    ∙ (ap (λ (sorts : List Sort). meant (fitting sorts [] (application_of number d.function.result []))) d.takes
     ∙ ap (λ (s : Sort). Ok (Meant (application number [] s))) d.gives)))
 
 -- a variable

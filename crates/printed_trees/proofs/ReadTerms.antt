@@ -23,7 +23,7 @@ use Rattle.smtlib_terms.specs.declared.meaning.Meaning.TheVariants as meaning
 use Rattle.smtlib_terms.specs.declared.meaning.Side.TheVariants.{Meant}
 use Rattle.smtlib_terms.specs.declared.names.Binding.{Binding}
 use Rattle.smtlib_terms.specs.declared.word.Word.TheVariants as word
-use Rattle.smtlib_terms.specs.Applying.{application, fitting, mapped, name_applied, terms_of}
+use Rattle.smtlib_terms.specs.Applying.{application, fitting, mapped, name_applied, terms_of, application_of}
 use Rattle.smtlib_terms.specs.Meaning.{depth_of}
 use Rattle.smtlib_terms.specs.Names.{◌>>=◌, Signature}
 use Rattle.smtlib_terms.specs.Operators.{applied, constant, meant, term_meant}
@@ -63,7 +63,7 @@ as_meant script marks scope next t s m same is = subst (Reads script marks scope
 -- a function with arguments
 call_means : (script : Script) (marks : ℕ) (told : AreToldApart script marks) (scope : List Binder) (small : AreSmall scope) (next f : ℕ) (args : List Plain) (s : Plain) (u : Sexpr) (us : List Sexpr) (ms : List Meaning) (m : Meaning) →
     IsDeclared (plain_lists script.functions) f (map plain_sort args) (plain_sort s) → values_read (map part_of (u ∷ us)) (signature_of script) (bindings_of marks scope) next ≡ Ok ms →
-    fitting (map plain_sort args) ms (Ok (application f ms (plain_sort s))) ≡ Ok m → depth_of m ≤ 1000 →
+    fitting (map plain_sort args) ms (application_of f (plain_sort s) ms) ≡ Ok m → depth_of m ≤ 1000 →
     Reads script marks scope next (tree.List (function_name_tree script f ∷ u ∷ us)) m
 call_means script marks told scope small next f args s u us ms m d read fits deep =
     let is = function_found script marks f d.function told d.there in
@@ -73,8 +73,8 @@ call_means script marks told scope small next f args s u us ms m d read fits dee
     ∙ word_means d.function.name word.Name (u ∷ us) names bound next m (name_word d.function.name is.no_word)
     (ap (λ (r : Result (List Meaning) FaultKind). meant (r >>= name_applied names bound d.function.name next)) read
     ∙ (ap meant (name_fits script marks told scope small next f d.function ms d.there)
-    ∙ (ap (λ (sorts : List Sort). meant (fitting sorts ms (Ok (application f ms d.function.result)))) d.takes
-    ∙ (ap (λ (result : Sort). meant (fitting (map plain_sort args) ms (Ok (application f ms result)))) d.gives
+    ∙ (ap (λ (sorts : List Sort). meant (fitting sorts ms (application_of f d.function.result ms))) d.takes
+    ∙ (ap (λ (result : Sort). meant (fitting (map plain_sort args) ms (application_of f result ms))) d.gives
     ∙ ap meant fits))))
     deep
 
@@ -87,11 +87,11 @@ apply_means script marks told scope small next f ts args s d HaveSortsIn.no_term
 apply_means script marks told scope small next f ts args s d (HaveSortsIn.more_terms t us p ps index h hs) read deep =
     let whole = HaveSortsIn.more_terms t us p ps index h hs in
     let ms = meanings_of (t ∷ us) (p ∷ ps) in
-    let terms : terms_of ms ≡ t ∷ us = meanings_terms script scope (t ∷ us) (p ∷ ps) whole in
+    let terms : terms_of ms ≡ Ok (t ∷ us) = meanings_terms script scope (t ∷ us) (p ∷ ps) whole in
     call_means script marks told scope small next f (p ∷ ps) s (term_tree script marks t) (map (term_tree script marks) us) ms (term_meant s (term.Apply (symbol.Declared f) (t ∷ us))) d read
-    (fitting_ok (map plain_sort (p ∷ ps)) ms (application f ms (plain_sort s)) (meanings_count script scope (t ∷ us) (p ∷ ps) whole) (meanings_sorts script scope (t ∷ us) (p ∷ ps) whole)
-    ∙ (ap (λ (m : Meaning). Ok m) (application_is f ms s)
-    ∙ ap (λ (vs : List Term). Ok (term_meant s (term.Apply (symbol.Declared f) vs))) terms))
+    (fitting_ok (map plain_sort (p ∷ ps)) ms (application_of f (plain_sort s) ms) (meanings_count script scope (t ∷ us) (p ∷ ps) whole) (meanings_sorts script scope (t ∷ us) (p ∷ ps) whole)
+    ∙ (ap (λ (r : Result (List Term) FaultKind). r >>= (λ (vs : List Term). Ok (application f vs (plain_sort s)))) terms
+    ∙ ap (λ (m : Meaning). Ok m) (application_is f (t ∷ us) s)))
     (let same = meant_deep s (term.Apply (symbol.Declared f) (t ∷ us)) in omega arith)
 
 -- the head of a constant array

@@ -1,6 +1,6 @@
 -- What the words of arrays make of meanings in form is in form.
 use Rattle.std.proofs.Common.{◌≡◌, ℕ, ◌+◌, true, false, cond, List, [], ◌∷◌, Ok, Err, refl, sym, subst, length}
-use Rattle.mbqi_values.specs.declared.fault.FaultKind.TheVariants.{BoundArray, WrongSort}
+use Rattle.mbqi_values.specs.declared.fault.FaultKind.TheVariants.{WrongSort}
 use Rattle.mbqi_terms.specs.declared.formula.Formula.{Formula}
 use Rattle.mbqi_terms.specs.declared.formula.Formula.TheBlock.{hidden-the_row-Formula-0}
 use Rattle.mbqi_terms.specs.declared.script.Script.{Script}
@@ -86,7 +86,7 @@ selection_placed script scope next (a ∷ i ∷ v ∷ args) m hs is = cc
 
 last_placed : (script : Script) (scope : List Binder) (next : ℕ) (e : Plain) (a : ArrayTerm) (m : Meaning) → IsMeaning script scope next (meaning.Array plain.Int e a) → default_of (meaning.Array plain.Int e a) ≡ Ok m → IsMeaning script scope next m
 last_placed script scope next e a m h is =
-    let test = not_refused (varies a) (Ok (term_meant e (term.Default a))) BoundArray m is in
+    let test = not_refused (varies a) (Ok (term_meant e (term.Default a))) _ m is in
     subst (IsMeaning script scope next) (same_ok (term_meant e (term.Default a)) m test.1)
     (term_meant_is script scope next e (term.Default a) h.element (default_no_truth a) (HasSortIn.last a e h.array test.0))
 
@@ -105,7 +105,7 @@ defaulting_placed script scope next (a ∷ b ∷ args) m hs is = cc
 -- arrays without variables
 unbound_placed : (script : Script) (scope : List Binder) (next : ℕ) (i e : Plain) (a : ArrayTerm) (m : Meaning) → IsIndexSort (length script.sorts) i → IsPlainSort (length script.sorts) e → (varies a ≡ false → IsArray script scope a i e) → unbound i e a ≡ Ok m → IsMeaning script scope next m
 unbound_placed script scope next i e a m index element has is =
-    let test = not_refused (varies a) (Ok (meaning.Array i e a)) BoundArray m is in
+    let test = not_refused (varies a) (Ok (meaning.Array i e a)) _ m is in
     subst (IsMeaning script scope next) (same_ok (meaning.Array i e a) m test.1)
     (record { index = index; element = element; array = has test.0; closed = test.0 })
 

@@ -12,9 +12,10 @@ use Rattle.sexpr_text.specs.declared.tree.Sexpr.{Sexpr}
 use Rattle.smtlib_terms.specs.declared.meaning.Meaning.{Meaning}
 use Rattle.smtlib_terms.specs.declared.names.Definition.{Definition}
 use Rattle.smtlib_terms.specs.declared.names.Macro.{Macro}
-use Rattle.smtlib_terms.specs.Declaring.{Declarations, body_meant, declarable, definition_of, definition_parts, formula_read, function_declared, is_function, is_supported, macro_defined, macro_meant, macro_of, may_define, sort_declared, sort_read, with_definition, with_function, with_sort}
+use Rattle.smtlib_terms.specs.Declaring.{Declarations, body_meant, declarable, definition_of, definition_parts, formula_read, function_declared, is_function, is_supported, macro_defined, macro_meant, macro_of, may_define, sort_declared, sort_read, with_definition, with_function, with_sort, term_read}
 use Rattle.smtlib_terms.specs.Meaning.{sort_of}
 use Rattle.smtlib_terms.specs.Names.{◌>>=◌, is_symbol}
+use Rattle.smtlib_terms.specs.Operators.{as_formula}
 use Rattle.smtlib_terms.specs.Reading.{is_list, is_some_symbol, text_of, trees_in}
 use Rattle.smtlib_terms.specs.Words.{is_one_of, is_reserved}
 use Rattle.smtlib_decls.specs.declared.command.Command.{Command}
@@ -212,17 +213,23 @@ label_legal t label legal e =
     label_legal_at (attributes_in (trees_in t)) (position is_named (attributes_in (trees_in t))) label (attributes_legal (trees_in t) (trees_legal t legal)) e
 
 -- Assertions.
-asserted_step : (p : Progress) (label : Option (List ℕ)) (f : Formula) (t : Sexpr) (next : Progress) → formula_read p.names t ≡ Ok f → IfSome label IsLegalText → asserted p label f ≡ Ok next → IsStep p next
-asserted_step p label f t next read legal e =
+term_is_formula : (d : Declarations) (t : Sexpr) (m : Meaning) (f : Formula) → term_read d t ≡ Ok m → as_formula m ≡ Ok f → formula_read d t ≡ Ok f
+unfolding term_read formula_read
+term_is_formula d t m f read is = ap (λ (r : Result Meaning FaultKind). r >>= as_formula) read ∙ is
+
+asserted_step : (p : Progress) (label : Option (List ℕ)) (m : Meaning) (t : Sexpr) (next : Progress) → term_read p.names t ≡ Ok m → IfSome label IsLegalText → asserted p label m ≡ Ok next → IsStep p next
+asserted_step p label m t next read legal e =
     let before = not_refused p.asks _ Unsupported next e in
     let new = not_refused (is_taken label p.assertions) _ Twice next before.1 in
-    subst (IsStep p) (same_ok _ _ new.1) (IsStep.assertion label f (record { tree = t; read = read; legal = legal; new = new.0 }))
+    let formula = stepped (as_formula m) (λ (f : Formula). Ok (with_assertion p label f)) next new.1 in
+    subst (IsStep p) (same_ok _ _ formula.rest)
+    (IsStep.assertion label formula.value (record { tree = t; read = term_is_formula p.names t m formula.value read formula.first; legal = legal; new = new.0 }))
 
 assertion_steps : (p : Progress) (parts : List Sexpr) (next : Progress) → AllByRecursion AreLegal parts → assertion_command p parts ≡ Ok next → IsStep p next
 assertion_steps p [] next legal e = cc
 assertion_steps p (t ∷ []) next legal e =
-    let one = stepped (label_of t) (λ label. formula_read p.names t >>= (λ f. asserted p label f)) next e in
-    let two = stepped (formula_read p.names t) (λ f. asserted p one.value f) next one.rest in
+    let one = stepped (label_of t) (λ label. term_read p.names t >>= asserted p label) next e in
+    let two = stepped (term_read p.names t) (asserted p one.value) next one.rest in
     asserted_step p one.value two.value t next two.first (label_legal t one.value legal.0 one.first) two.rest
 assertion_steps p (t ∷ part ∷ parts) next legal e = cc
 

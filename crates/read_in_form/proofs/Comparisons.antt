@@ -2,7 +2,7 @@
 use Rattle.std.proofs.Common.{◌≡◌, ◌≤◌, ℕ, suc, ◌+◌, true, false, cond, leb, List, [], ◌∷◌, ◌++◌, length, map, Ok, Err, refl, ap, sym, subst, ◌∙◌, arith}
 use Rattle.std.specs.List.{list_any}
 use Rattle.std.proofs.lemmas.Bool.{and_parts, or_parts}
-use Rattle.mbqi_values.specs.declared.fault.FaultKind.TheVariants.{QuantifierPlace, WrongCount, WrongSort}
+use Rattle.mbqi_values.specs.declared.fault.FaultKind.TheVariants.{WrongCount, WrongSort}
 use Rattle.mbqi_terms.specs.declared.formula.Formula.{Formula}
 use Rattle.mbqi_terms.specs.declared.formula.Formula.TheVariants as formula
 use Rattle.mbqi_terms.specs.declared.script.Script.{Script}
@@ -17,7 +17,7 @@ use Rattle.smtlib_terms.specs.declared.meaning.Meaning.{Meaning}
 use Rattle.smtlib_terms.specs.declared.meaning.Meaning.TheVariants as meaning
 use Rattle.smtlib_terms.specs.Meaning.{sort_of, variables_of}
 use Rattle.smtlib_terms.specs.Names.{◌>>=◌}
-use Rattle.smtlib_terms.specs.Operators.{all_of, as_integer, as_integers, at_least, at_most, below, chain, chained, compared_by, equality, have_sort, inequality, is_quantified_meaning, ordered_by, pairs}
+use Rattle.smtlib_terms.specs.Operators.{all_of, as_integer, as_integers, at_least, at_most, below, chain, chained, compared_by, equality, have_sort, inequality, is_quantified_meaning, ordered_by, pairs, compared}
 use Rattle.measured_terms.proofs.FormulaLaws as formula_measure
 use Rattle.mbqi_terms.specs.HasSort.{IsIndexSort}
 use Rattle.mbqi_terms.specs.InForm.{IsPlaced}
@@ -126,15 +126,15 @@ all_quantifier_free : (script : Script) (scope : List Binder) (next : ℕ) (fs :
 all_quantifier_free script scope next fs some free =
     joined_placed script scope next formula.All (λ f g rest placed. IsPlaced.conjunction scope next f g rest placed) fs some (quantifier_free_placed script scope next fs free)
 
-compared : (script : Script) (scope : List Binder) (next : ℕ) (relation : List Meaning → List Formula) → ((s : Sort) (m n : Meaning) (ms : List Meaning) → AreQuantifierFreeMeanings script scope next s (m ∷ n ∷ ms) → AreQuantifierFree script scope next (relation (m ∷ n ∷ ms))) → ((m n : Meaning) (ms : List Meaning) → 1 ≤ length (relation (m ∷ n ∷ ms))) →
+compared_placed : (script : Script) (scope : List Binder) (next : ℕ) (relation : List Meaning → List Formula) → ((s : Sort) (m n : Meaning) (ms : List Meaning) → AreQuantifierFreeMeanings script scope next s (m ∷ n ∷ ms) → AreQuantifierFree script scope next (relation (m ∷ n ∷ ms))) → ((m n : Meaning) (ms : List Meaning) → 1 ≤ length (relation (m ∷ n ∷ ms))) →
     (args : List Meaning) (f : Formula) → AreMeanings script scope next args → at_least 2 args (compared_by relation args) ≡ Ok f → IsFormula script scope next f
-compared script scope next relation free some [] f are is = cc
-compared script scope next relation free some (m ∷ []) f are is = cc
-compared script scope next relation free some (m ∷ n ∷ ms) f are is =
+compared_placed script scope next relation free some [] f are is = cc
+compared_placed script scope next relation free some (m ∷ []) f are is = cc
+compared_placed script scope next relation free some (m ∷ n ∷ ms) f are is =
     let args = m ∷ n ∷ ms in
     let read = passed (leb 2 (length args)) (compared_by relation args) WrongCount f is in
-    let sorted = passed (have_sort (sort_of m) (n ∷ ms)) (cond (list_any is_quantified_meaning args) (Err QuantifierPlace) (Ok (all_of (relation args)))) WrongSort f read.1 in
-    let none = not_refused (list_any is_quantified_meaning args) (Ok (all_of (relation args))) QuantifierPlace f sorted.1 in
+    let sorted = passed (have_sort (sort_of m) (n ∷ ms)) (compared args (all_of (relation args))) WrongSort f read.1 in
+    let none = not_refused (list_any is_quantified_meaning args) (Ok (all_of (relation args))) _ f sorted.1 in
     let closed = or_parts (is_quantified_meaning m) (list_any is_quantified_meaning (n ∷ ms)) none.0 in
     let own = closed_meaning m closed.0 in
     let here : next + variables_of m ≡ next = omega arith in
@@ -145,11 +145,11 @@ compared script scope next relation free some (m ∷ n ∷ ms) f are is =
 
 pub equality_placed : (script : Script) (scope : List Binder) (next : ℕ) (args : List Meaning) (f : Formula) → AreMeanings script scope next args → at_least 2 args (compared_by (chain equality) args) ≡ Ok f → IsFormula script scope next f
 equality_placed script scope next args f are is =
-    compared script scope next (chain equality) (λ s m n ms all. chained_quantifier_free script scope next s m (n ∷ ms) all.0 all.1) (λ m n ms. omega arith) args f are is
+    compared_placed script scope next (chain equality) (λ s m n ms all. chained_quantifier_free script scope next s m (n ∷ ms) all.0 all.1) (λ m n ms. omega arith) args f are is
 
 pub difference_placed : (script : Script) (scope : List Binder) (next : ℕ) (args : List Meaning) (f : Formula) → AreMeanings script scope next args → at_least 2 args (compared_by (pairs inequality) args) ≡ Ok f → IsFormula script scope next f
 difference_placed script scope next args f are is =
-    compared script scope next (pairs inequality) (λ s m n ms all. pairs_quantifier_free script scope next s (m ∷ n ∷ ms) all) (λ m n ms. omega arith) args f are is
+    compared_placed script scope next (pairs inequality) (λ s m n ms all. pairs_quantifier_free script scope next s (m ∷ n ∷ ms) all) (λ m n ms. omega arith) args f are is
 
 -- integers, as many as the meanings
 integers_count : (ms : List Meaning) (ts : List Term) → as_integers ms ≡ Ok ts → length ms ≡ length ts

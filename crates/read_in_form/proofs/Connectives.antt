@@ -4,7 +4,7 @@ use Rattle.std.specs.List.{list_any}
 use Rattle.std.proofs.lemmas.Bool.{or_parts}
 use Rattle.std.proofs.lemmas.Bool.Decides.{nat_tests}
 use Rattle.mbqi_values.specs.declared.fault.FaultKind.{FaultKind}
-use Rattle.mbqi_values.specs.declared.fault.FaultKind.TheVariants.{QuantifierPlace, Unsupported, WrongCount}
+use Rattle.mbqi_values.specs.declared.fault.FaultKind.TheVariants.{Unsupported, WrongCount}
 use Rattle.mbqi_terms.specs.declared.formula.Formula.{Formula}
 use Rattle.mbqi_terms.specs.declared.formula.Formula.TheVariants as formula
 use Rattle.mbqi_terms.specs.declared.script.Script.{Script}
@@ -160,7 +160,7 @@ unlike_placed script scope next f (g ∷ gs) one free =
 first_unlike : (script : Script) (scope : List Binder) (next : ℕ) (fs : List Formula) (f : Formula) → AreFormulas script scope next fs → exclusion_of fs ≡ Ok f → IsFormula script scope next f
 first_unlike script scope next [] f placed is = cc
 first_unlike script scope next (g ∷ gs) f placed is =
-    let none = not_refused (list_any is_quantified (g ∷ gs)) (Ok (unlike g gs)) QuantifierPlace f is in
+    let none = not_refused (list_any is_quantified (g ∷ gs)) (Ok (unlike g gs)) _ f is in
     let free = placed_quantifier_free script scope next (g ∷ gs) placed none.0 in
     let same : unlike g gs ≡ f = let made = none.1 in cc in
     subst (IsFormula script scope next) same (unlike_placed script scope next g gs free.0 free.1)
@@ -176,7 +176,7 @@ three_chosen script scope next [] f placed is = cc
 three_chosen script scope next (c ∷ []) f placed is = cc
 three_chosen script scope next (c ∷ g ∷ []) f placed is = cc
 three_chosen script scope next (c ∷ g ∷ h ∷ []) f (AreAllPlaced.more_formulas s n d ds one (AreAllPlaced.more_formulas s' n' d' ds' two (AreAllPlaced.more_formulas s'' n'' d'' ds'' three none))) is =
-    let test = not_refused (is_quantified c || false) (Ok (formula.Choose c g h)) QuantifierPlace f is in
+    let test = not_refused (is_quantified c || false) (Ok (formula.Choose c g h)) _ f is in
     let closed = closed_by_test c (or_parts (is_quantified c) false test.0).0 in
     let same : formula.Choose c g h ≡ f = let made = test.1 in cc in
     let here : next + variables_in c ≡ next = omega arith in

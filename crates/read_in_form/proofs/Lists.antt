@@ -21,7 +21,7 @@ use Rattle.smtlib_terms.specs.declared.word.Word.TheVariants as word
 use Rattle.smtlib_terms.specs.Applying.{mapped, name_applied}
 use Rattle.smtlib_terms.specs.Meaning.{depth_of, shallow}
 use Rattle.smtlib_terms.specs.Names.{◌>>=◌, Signature, sort_meant}
-use Rattle.smtlib_terms.specs.Operators.{applied, as_formula, constant, meant, subtraction}
+use Rattle.smtlib_terms.specs.Operators.{applied, as_formula, constant, is_relation, meant, subtraction}
 use Rattle.smtlib_terms.specs.Reading.{Head, Named, Constant, Mapped, NoHead, Part, Reading, are_binders, bindable, binder_name, binding_of, bindings_read, body_read, call_read, first_read, head_of, headed_read, is_forall, let_read, list_read, named_read, parts_read, quantified, quantified_meant, quantifier_binders, quantifier_read, relation_read, shallow_side, trees_in, value_read, values_read}
 use Rattle.read_in_form.proofs.Arrays.{constant_placed}
 use Rattle.read_in_form.proofs.Binders.{binders_are_read, binders_in, body_below, body_extends, variables_bound}
@@ -125,14 +125,14 @@ meant_is_side script scope next r s gives is =
     subst (IsSideMeaning script scope next) (sym by.side) (gives by.value by.first)
 
 -- a word with what stands behind it
-operation_by_test : (script : Script) (test : Bool) (w : Word) (ps : List Part) (names : Signature) (scope : List Binder) (bindings : List Binding) (next : ℕ) (s : Side) → AreGoodParts script ps → IsPlace script names scope bindings next →
+operation_by_test : (script : Script) (test : Bool) (w : Word) (ps : List Part) (names : Signature) (scope : List Binder) (bindings : List Binding) (next : ℕ) (s : Side) → is_relation w ≡ test → AreGoodParts script ps → IsPlace script names scope bindings next →
     (let r : Result Side FaultKind = elim test [
       | true ↦ meant (relation_read w ps names bindings next)
       | false ↦ meant (parts_read ps names bindings next >>= applied w)
     ] in r) ≡ Ok s → IsSideMeaning script scope next s
-operation_by_test script true w ps names scope bindings next s good at is =
-    meant_is_side script scope next (relation_read w ps names bindings next) s (λ m e. relation_is_read script w ps names scope bindings next m good at e) is
-operation_by_test script false w ps names scope bindings next s good at is =
+operation_by_test script true w ps names scope bindings next s relation good at is =
+    meant_is_side script scope next (relation_read w ps names bindings next) s (λ m e. relation_is_read script w ps names scope bindings next m relation good at e) is
+operation_by_test script false w ps names scope bindings next s relation good at is =
     meant_is_side script scope next (parts_read ps names bindings next >>= applied w) s (λ m e. word_over_parts script w ps names scope bindings next m good at e) is
 
 named_is_read : (script : Script) (w : Word) (text : List ℕ) (ps : List Part) → AreGoodParts script ps → GivesSide script (named_read w text ps)
@@ -150,23 +150,23 @@ named_is_read script word.Minus text ps good names scope bindings next s at is =
     subtraction_placed script scope next args.value s (parts_are_read script ps names scope bindings next args.value good at args.first) args.rest
 named_is_read script word.Name text ps good names scope bindings next s at is =
     meant_is_side script scope next (call_read text ps names bindings next) s (λ m e. call_is_read script text ps good names scope bindings next m at e) is
-named_is_read script word.Not text ps good names scope bindings next s at is = operation_by_test script false word.Not ps names scope bindings next s good at is
-named_is_read script word.And text ps good names scope bindings next s at is = operation_by_test script false word.And ps names scope bindings next s good at is
-named_is_read script word.Or text ps good names scope bindings next s at is = operation_by_test script false word.Or ps names scope bindings next s good at is
-named_is_read script word.Implies text ps good names scope bindings next s at is = operation_by_test script false word.Implies ps names scope bindings next s good at is
-named_is_read script word.Xor text ps good names scope bindings next s at is = operation_by_test script false word.Xor ps names scope bindings next s good at is
-named_is_read script word.Equal text ps good names scope bindings next s at is = operation_by_test script true word.Equal ps names scope bindings next s good at is
-named_is_read script word.Distinct text ps good names scope bindings next s at is = operation_by_test script true word.Distinct ps names scope bindings next s good at is
-named_is_read script word.Choose text ps good names scope bindings next s at is = operation_by_test script false word.Choose ps names scope bindings next s good at is
-named_is_read script word.AtMost text ps good names scope bindings next s at is = operation_by_test script true word.AtMost ps names scope bindings next s good at is
-named_is_read script word.Below text ps good names scope bindings next s at is = operation_by_test script true word.Below ps names scope bindings next s good at is
-named_is_read script word.AtLeast text ps good names scope bindings next s at is = operation_by_test script true word.AtLeast ps names scope bindings next s good at is
-named_is_read script word.Above text ps good names scope bindings next s at is = operation_by_test script true word.Above ps names scope bindings next s good at is
-named_is_read script word.Plus text ps good names scope bindings next s at is = operation_by_test script false word.Plus ps names scope bindings next s good at is
-named_is_read script word.Select text ps good names scope bindings next s at is = operation_by_test script false word.Select ps names scope bindings next s good at is
-named_is_read script word.Store text ps good names scope bindings next s at is = operation_by_test script false word.Store ps names scope bindings next s good at is
-named_is_read script word.Default text ps good names scope bindings next s at is = operation_by_test script false word.Default ps names scope bindings next s good at is
-named_is_read script word.Arithmetic text ps good names scope bindings next s at is = operation_by_test script false word.Arithmetic ps names scope bindings next s good at is
+named_is_read script word.Not text ps good names scope bindings next s at is = operation_by_test script false word.Not ps names scope bindings next s refl good at is
+named_is_read script word.And text ps good names scope bindings next s at is = operation_by_test script false word.And ps names scope bindings next s refl good at is
+named_is_read script word.Or text ps good names scope bindings next s at is = operation_by_test script false word.Or ps names scope bindings next s refl good at is
+named_is_read script word.Implies text ps good names scope bindings next s at is = operation_by_test script false word.Implies ps names scope bindings next s refl good at is
+named_is_read script word.Xor text ps good names scope bindings next s at is = operation_by_test script false word.Xor ps names scope bindings next s refl good at is
+named_is_read script word.Equal text ps good names scope bindings next s at is = operation_by_test script true word.Equal ps names scope bindings next s refl good at is
+named_is_read script word.Distinct text ps good names scope bindings next s at is = operation_by_test script true word.Distinct ps names scope bindings next s refl good at is
+named_is_read script word.Choose text ps good names scope bindings next s at is = operation_by_test script false word.Choose ps names scope bindings next s refl good at is
+named_is_read script word.AtMost text ps good names scope bindings next s at is = operation_by_test script true word.AtMost ps names scope bindings next s refl good at is
+named_is_read script word.Below text ps good names scope bindings next s at is = operation_by_test script true word.Below ps names scope bindings next s refl good at is
+named_is_read script word.AtLeast text ps good names scope bindings next s at is = operation_by_test script true word.AtLeast ps names scope bindings next s refl good at is
+named_is_read script word.Above text ps good names scope bindings next s at is = operation_by_test script true word.Above ps names scope bindings next s refl good at is
+named_is_read script word.Plus text ps good names scope bindings next s at is = operation_by_test script false word.Plus ps names scope bindings next s refl good at is
+named_is_read script word.Select text ps good names scope bindings next s at is = operation_by_test script false word.Select ps names scope bindings next s refl good at is
+named_is_read script word.Store text ps good names scope bindings next s at is = operation_by_test script false word.Store ps names scope bindings next s refl good at is
+named_is_read script word.Default text ps good names scope bindings next s at is = operation_by_test script false word.Default ps names scope bindings next s refl good at is
+named_is_read script word.Arithmetic text ps good names scope bindings next s at is = operation_by_test script false word.Arithmetic ps names scope bindings next s refl good at is
 
 -- a head that is no symbol
 headed_is_read : (script : Script) (h : Head) (ps : List Part) → AreGoodParts script ps → GivesSide script (headed_read h ps)

@@ -3,7 +3,7 @@ use Rattle.std.proofs.Common.{◌≡◌, ◌+◌, ℕ, suc, Bool, true, false, c
 use Rattle.std.specs.Prelude.{codes}
 use Rattle.std.proofs.lemmas.Bool.{and_parts}
 use Rattle.mbqi_values.specs.declared.fault.FaultKind.{FaultKind}
-use Rattle.mbqi_values.specs.declared.fault.FaultKind.TheVariants.{BoundArray, Unsupported, WrongCount, WrongSort}
+use Rattle.mbqi_values.specs.declared.fault.FaultKind.TheVariants.{Unsupported, WrongCount, WrongSort}
 use Rattle.mbqi_terms.specs.declared.script.Function.{Function}
 use Rattle.mbqi_terms.specs.declared.script.Script.{Script}
 use Rattle.mbqi_terms.specs.declared.sort.Binder.{Binder}
@@ -28,7 +28,7 @@ use Rattle.mbqi_terms.specs.InForm.{IsResultSort, plain_lists}
 use Rattle.smtlib_terms.specs.InForm.{AreArrays, IsArray}
 use Rattle.read_in_form.proofs.Placed.{AreMeanings, IsArrayOf, IsFunction, IsMeaning, IsSignature}
 use Rattle.read_in_form.proofs.SameSorts.{same_plain, same_sort}
-use Rattle.read_in_form.proofs.Steps.{passed, stepped}
+use Rattle.read_in_form.proofs.Steps.{passed, stepped, not_refused, same_ok}
 use Rattle.mbqi_terms.specs.Varies.{varies}
 use Rattle.mbqi_terms.specs.Sort.{is_array, plain_sort, is_plain, is_sort}
 
@@ -158,19 +158,15 @@ over_are script scope next i (s ∷ ss) (m ∷ ms) are e =
     more_over script scope i s ss m ms (over_is script scope next i s m are.0 tests.0) (over_are script scope (next + variables_of m) i ss ms are.1 tests.1)
 
 -- the map of arrays
-free_is : (i e : Plain) (a : ArrayTerm) (t : Bool) (m : Meaning) → cond t (Err BoundArray) (Ok (meaning.Array i e a)) ≡ Ok m → (t ≡ false) × (meaning.Array i e a ≡ m)
-free_is i e a true m is = cc
-free_is i e a false m is = (refl, cc)
-
 map_is : (script : Script) (scope : List Binder) (next : ℕ) (p : Pointwise) (i e : Plain) (a : ArrayTerm) (arrays : List ArrayTerm) (es : List Plain) (m : Meaning) → Gives script p → IsArrayOf script scope i e a → p.places ≡ map plain_sort es →
     AreArrays script scope (a ∷ arrays) i es → unbound i p.result (array.Map p.op (a ∷ arrays)) ≡ Ok m → IsMeaning script scope next m
 map_is script scope next p i e a arrays [] m gives first same hs is = elim hs [ ]
 map_is script scope next p i e a arrays (d ∷ ds) m gives first same hs is =
-    let free = free_is i p.result (array.Map p.op (a ∷ arrays)) (varies (array.Map p.op (a ∷ arrays))) m is in
+    let free = not_refused (varies (array.Map p.op (a ∷ arrays))) (Ok (meaning.Array i p.result (array.Map p.op (a ∷ arrays)))) _ m is in
     let given = gives d ds same in
     let whole : IsArrayOf script scope i p.result (array.Map p.op (a ∷ arrays)) =
     record { index = first.index; element = given.result; array = IsArrayIn.pointwise p.op a arrays i p.result (d ∷ ds) given.pointwise hs free.0; closed = free.0 } in
-    subst (IsMeaning script scope next) free.1 whole
+    subst (IsMeaning script scope next) (same_ok (meaning.Array i p.result (array.Map p.op (a ∷ arrays))) m free.1) whole
 
 mapped_over_is : (script : Script) (scope : List Binder) (next : ℕ) (p : Pointwise) (args : List Meaning) (m : Meaning) → Gives script p → AreMeanings script scope next args → mapped_over p args ≡ Ok m → IsMeaning script scope next m
 mapped_over_is script scope next p [] m gives are is = cc

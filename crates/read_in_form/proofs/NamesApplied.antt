@@ -19,22 +19,22 @@ use Rattle.smtlib_terms.specs.declared.meaning.Bound.{Bound}
 use Rattle.smtlib_terms.specs.declared.meaning.Meaning.{Meaning}
 use Rattle.smtlib_terms.specs.declared.meaning.Meaning.TheVariants as meaning
 use Rattle.smtlib_terms.specs.declared.names.Binding.{Binding}
-use Rattle.smtlib_terms.specs.Applying.{alone, application, bound_applied, declared_applied, fitting, function_applied, have_sorts, meaning_in_scope, name_applied, terms_of}
+use Rattle.smtlib_terms.specs.Applying.{alone, application, bound_applied, declared_applied, fitting, function_applied, have_sorts, meaning_in_scope, name_applied, terms_of, application_of}
 use Rattle.smtlib_terms.specs.Meaning.{depth_of, sort_of}
-use Rattle.smtlib_terms.specs.Names.{Reader, Signature, bound_to, function_named, macro_named}
+use Rattle.smtlib_terms.specs.Names.{Reader, Signature, bound_to, function_named, macro_named, ◌>>=◌}
+use Rattle.mbqi_terms.specs.Depth.{depth_of_term}
+use Rattle.mbqi_terms.specs.Sort.{is_array, is_sort, plain_sort}
 use Rattle.measured_terms.proofs.ArrayLaws.{depth-Name, varies-Name}
 use Rattle.measured_terms.proofs.FormulaLaws.{depth-Atom}
 use Rattle.measured_terms.proofs.SymbolLaws.{depth-Declared}
 use Rattle.measured_terms.proofs.TermLaws.{depth-Apply}
 use Rattle.mbqi_terms.specs.HasSort.{HasSortIn, HaveSortsIn, IsArrayIn, IsDeclared, IsIndexSort}
 use Rattle.mbqi_terms.specs.InForm.{IsPlaced, IsResultSort, IsVariableSort, plain_lists}
-use Rattle.smtlib_terms.specs.InForm.{HasSort, HaveSorts}
+use Rattle.smtlib_terms.specs.InForm.{HasSort, HaveSorts, IsArray}
 use Rattle.read_in_form.proofs.Placed.{AreValues, IsBelow, IsBound, IsFunction, IsMeaning, IsRead, IsReader, IsScope, IsSignature}
 use Rattle.read_in_form.proofs.NoTruths.{applied_no_truth}
 use Rattle.read_in_form.proofs.SameSorts.{same_sort}
-use Rattle.read_in_form.proofs.Steps.{passed}
-use Rattle.mbqi_terms.specs.Depth.{depth_of_term}
-use Rattle.mbqi_terms.specs.Sort.{is_array, plain_sort, is_sort}
+use Rattle.read_in_form.proofs.Steps.{passed, same_ok}
 
 no_truth : (script : Script) (s : Sort) → IsVariableSort (length script.sorts) s → is_sort s sort.Truth ≡ false
 no_truth script sort.Truth is = absurd is
@@ -68,18 +68,22 @@ argument_is script scope next s (meaning.Term r t) var is e =
 record AreArguments (script : Script) (scope : List Binder) (sorts : List Sort) (args : List Meaning) : Type 0 where
   plains : List Plain
   same : sorts ≡ map plain_sort plains
-  terms : HaveSorts script scope (terms_of args) plains
+  terms : List Term
+  read : terms_of args ≡ Ok terms
+  has : HaveSorts script scope terms plains
 
 more_arguments : (script : Script) (scope : List Binder) (s : Sort) (ss : List Sort) (m : Meaning) (ms : List Meaning) → IsArgument script scope s m → AreArguments script scope ss ms → AreArguments script scope (s ∷ ss) (m ∷ ms)
 more_arguments script scope s ss m ms a as' =
     record {
       plains = a.is ∷ as'.plains;
       same = ap (λ (r : Sort). r ∷ ss) a.sort ∙ ap (λ (rest : List Sort). plain_sort a.is ∷ rest) as'.same;
-      terms = subst (λ (n : Meaning). HaveSorts script scope (terms_of (n ∷ ms)) (a.is ∷ as'.plains)) (sym a.meaning) (HaveSortsIn.more_terms a.term (terms_of ms) a.is as'.plains a.index a.has as'.terms);
+      terms = a.term ∷ as'.terms;
+      read = ap (λ (n : Meaning). terms_of (n ∷ ms)) a.meaning ∙ ap (λ (r : Result (List Term) FaultKind). r >>= (λ (ts : List Term). Ok (a.term ∷ ts))) as'.read;
+      has = HaveSortsIn.more_terms a.term as'.terms a.is as'.plains a.index a.has as'.has;
     }
 
 arguments_are : (script : Script) (scope : List Binder) (next : ℕ) (sorts : List Sort) (args : List Meaning) → AllByRecursion (IsVariableSort (length script.sorts)) sorts → AreValues script scope next args → have_sorts sorts args ≡ true → AreArguments script scope sorts args
-arguments_are script scope next [] [] all values e = record { plains = []; same = refl; terms = HaveSortsIn.no_terms }
+arguments_are script scope next [] [] all values e = record { plains = []; same = refl; terms = []; read = refl; has = HaveSortsIn.no_terms }
 arguments_are script scope next [] (m ∷ ms) all values e = cc
 arguments_are script scope next (s ∷ ss) [] all values e = cc
 arguments_are script scope next (s ∷ ss) (m ∷ ms) all values e =
@@ -87,24 +91,37 @@ arguments_are script scope next (s ∷ ss) (m ∷ ms) all values e =
     more_arguments script scope s ss m ms (argument_is script scope next s m all.0 values.0.meaning tests.0) (arguments_are script scope next ss ms all.1 values.1 tests.1)
 
 -- the application of a function, by the sort of its result
-applied_is : (script : Script) (scope : List Binder) (next number : ℕ) (args : List Meaning) (ps : List Plain) (r : Sort) → IsResultSort (length script.sorts) r → IsDeclared (plain_lists script.functions) number (map plain_sort ps) r →
-    (is_array r ≡ true → map plain_sort ps ≡ []) → HaveSorts script scope (terms_of args) ps → IsMeaning script scope next (application number args r)
-applied_is script scope next number args ps sort.Truth is d none hs =
-    IsPlaced.atom scope next (term.Apply (symbol.Declared number) (terms_of args))
-    (record { sort = HasSortIn.application number (terms_of args) ps plain.Truth d hs; other = applied_no_truth (symbol.Declared number) (terms_of args) })
-applied_is script scope next number args ps sort.Int is d none hs =
-    record { is = plain.Int; sort = refl; index = tt; term = HasSortIn.application number (terms_of args) ps plain.Int d hs }
-applied_is script scope next number args ps (sort.Elem n) is d none hs =
-    record { is = plain.Elem n; sort = refl; index = is; term = HasSortIn.application number (terms_of args) ps (plain.Elem n) d hs }
-applied_is script scope next number args ps (sort.Array i e) is d none hs =
+applied_is : (script : Script) (scope : List Binder) (next number : ℕ) (ts : List Term) (ps : List Plain) (r : Sort) → IsResultSort (length script.sorts) r → IsDeclared (plain_lists script.functions) number (map plain_sort ps) r →
+    (is_array r ≡ true → map plain_sort ps ≡ []) → HaveSorts script scope ts ps → IsMeaning script scope next (application number ts r)
+applied_is script scope next number ts ps sort.Truth is d none hs =
+    IsPlaced.atom scope next (term.Apply (symbol.Declared number) ts)
+    (record { sort = HasSortIn.application number ts ps plain.Truth d hs; other = applied_no_truth (symbol.Declared number) ts })
+applied_is script scope next number ts ps sort.Int is d none hs =
+    record { is = plain.Int; sort = refl; index = tt; term = HasSortIn.application number ts ps plain.Int d hs }
+applied_is script scope next number ts ps (sort.Elem n) is d none hs =
+    record { is = plain.Elem n; sort = refl; index = is; term = HasSortIn.application number ts ps (plain.Elem n) d hs }
+applied_is script scope next number ts ps (sort.Array i e) is d none hs =
     record { index = is.0; element = is.1; array = IsArrayIn.name number i e (subst (λ (ss : List Sort). IsDeclared (plain_lists script.functions) number ss (sort.Array i e)) (none refl) d); closed = varies-Name number }
 
-application_is : (script : Script) (scope : List Binder) (next number : ℕ) (f : Function) (args : List Meaning) → IsFunction script number f → AreValues script scope next args → have_sorts f.args args ≡ true → IsMeaning script scope next (application number args f.result)
+record IsApplication (script : Script) (scope : List Binder) (next number : ℕ) (f : Function) (args : List Meaning) : Type 0 where
+  terms : List Term
+  read : terms_of args ≡ Ok terms
+  is : IsMeaning script scope next (application number terms f.result)
+
+application_is : (script : Script) (scope : List Binder) (next number : ℕ) (f : Function) (args : List Meaning) → IsFunction script number f → AreValues script scope next args → have_sorts f.args args ≡ true → IsApplication script scope next number f args
 application_is script scope next number f args is values e =
     let them = arguments_are script scope next f.args args (recursion_from_All (IsVariableSort (length script.sorts)) f.args is.ranked.args) values e in
-    applied_is script scope next number args them.plains f.result is.ranked.result
-    (record { function = f; there = is.there; takes = them.same; gives = refl })
-    (λ array. sym them.same ∙ is.ranked.array array) them.terms
+    record {
+      terms = them.terms;
+      read = them.read;
+      is = applied_is script scope next number them.terms them.plains f.result is.ranked.result
+          (record { function = f; there = is.there; takes = them.same; gives = refl })
+          (λ array. sym them.same ∙ is.ranked.array array) them.has;
+    }
+
+no_terms : (args : List Meaning) (ts : List Term) → args ≡ [] → terms_of args ≡ Ok ts → [] ≡ ts
+no_terms [] ts none read = same_ok [] ts read
+no_terms (m ∷ ms) ts none read = cc
 
 -- one without arguments isn't deep
 constant_depth : (number : ℕ) → depth_of_term (term.Apply (symbol.Declared number) []) ≡ 1
@@ -133,12 +150,14 @@ function_is : (script : Script) (scope : List Binder) (next : ℕ) (args : List 
     ((number : ℕ) (f : Function) → found ≡ Some (number, f) → IsFunction script number f) → function_applied args found ≡ Ok m → IsApplied script scope next args m
 function_is script scope next args None m values each e = cc
 function_is script scope next args (Some f) m values each e =
-    let fit = fits f.1.args args (Ok (application f.0 args f.1.result)) m e in
-    let same : application f.0 args f.1.result ≡ m = let was = fit.1 in cc in
-    let applied : IsApplied script scope next args (application f.0 args f.1.result) =
+    let fit = fits f.1.args args (application_of f.0 f.1.result args) m e in
+    let given = application_is script scope next f.0 f.1 args (each f.0 f.1 refl) values fit.0 in
+    let same : application f.0 given.terms f.1.result ≡ m =
+    same_ok (application f.0 given.terms f.1.result) m (ap (λ (r : Result (List Term) FaultKind). r >>= (λ (ts : List Term). Ok (application f.0 ts f.1.result))) (sym given.read) ∙ fit.1) in
+    let applied : IsApplied script scope next args (application f.0 given.terms f.1.result) =
     record {
-      meaning = application_is script scope next f.0 f.1 args (each f.0 f.1 refl) values fit.0;
-      depth = λ none. let one : depth_of (application f.0 args f.1.result) ≡ 1 = ap (λ (ms : List Meaning). depth_of (application f.0 ms f.1.result)) none ∙ alone_depth f.0 f.1.result in omega arith;
+      meaning = given.is;
+      depth = λ none. let one : depth_of (application f.0 given.terms f.1.result) ≡ 1 = ap (λ (ts : List Term). depth_of (application f.0 ts f.1.result)) (sym (no_terms args given.terms none given.read)) ∙ alone_depth f.0 f.1.result in omega arith;
     } in
     subst (IsApplied script scope next args) same applied
 

@@ -1,5 +1,6 @@
 -- Parts of a list that each read as something in form: what several of them read as.
-use Rattle.std.proofs.Common.{◌≡◌, ℕ, ◌+◌, List, [], ◌∷◌, length, ◌==◌, Result, Ok, Err, if◌then◌else◌, subst, arith}
+use Rattle.std.proofs.Common.{◌≡◌, ℕ, ◌+◌, true, false, List, [], ◌∷◌, length, ◌==◌, Result, Ok, Err, if◌then◌else◌, subst, arith}
+use Rattle.std.specs.List.{list_any}
 use Rattle.mbqi_values.specs.declared.fault.FaultKind.{FaultKind}
 use Rattle.mbqi_values.specs.declared.fault.FaultKind.TheVariants.{WrongCount}
 use Rattle.mbqi_terms.specs.declared.script.Script.{Script}
@@ -11,13 +12,13 @@ use Rattle.smtlib_terms.specs.declared.names.Binding.{Binding}
 use Rattle.smtlib_terms.specs.declared.word.Word.{Word}
 use Rattle.smtlib_terms.specs.Meaning.{variables_of}
 use Rattle.smtlib_terms.specs.Names.{◌>>=◌, Signature}
-use Rattle.smtlib_terms.specs.Operators.{applied, plainly, two_sides}
+use Rattle.smtlib_terms.specs.Operators.{applied, is_relation, is_wide, plainly, two_sides}
 use Rattle.smtlib_terms.specs.Reading.{Part, Reading, body_read, first_read, parts_read, relation_read, sides_read, value_read, values_read, variables_of_side}
 use Rattle.read_in_form.proofs.Placed.{AreMeanings, AreValues, IsBelow, IsMeaning, IsRead, IsReadSide, IsScope, IsSideMeaning, IsSignature}
 use Rattle.read_in_form.proofs.Scopes.{below_later, extends_itself, scope_later}
 use Rattle.read_in_form.proofs.Sides.{two_sides_placed}
 use Rattle.read_in_form.proofs.Steps.{passed, plain_side, same_ok, stepped}
-use Rattle.read_in_form.proofs.Words.{applied_placed}
+use Rattle.read_in_form.proofs.Words.{applied_placed, relation_narrow}
 
 -- where something is read
 pub record IsPlace (script : Script) (names : Signature) (scope : List Binder) (bindings : List Binding) (next : ℕ) : Type 0 where
@@ -85,13 +86,13 @@ values_are_read script (p ∷ ps) names scope bindings next ms good at is =
     (one_is_read script p.reads names scope bindings next one.value good.0.reads at one.first, values_are_read script ps names scope bindings next more.value good.1 at more.first)
 
 -- the sides of an atom
-sides_are_read : (script : Script) (a b : Part) (names : Signature) (scope : List Binder) (bindings : List Binding) (next : ℕ) (ms : List Meaning) → IsGoodPart script a → IsGoodPart script b → IsPlace script names scope bindings next → sides_read a b names bindings next ≡ Ok ms → AreMeanings script scope next ms
-sides_are_read script a b names scope bindings next ms good also at is =
+sides_are_read : (script : Script) (a b : Part) (names : Signature) (scope : List Binder) (bindings : List Binding) (next : ℕ) (ms : List Meaning) → IsGoodPart script a → IsGoodPart script b → IsPlace script names scope bindings next → sides_read a b names bindings next ≡ Ok ms → list_any is_wide ms ≡ false → AreMeanings script scope next ms
+sides_are_read script a b names scope bindings next ms good also at is narrow =
     let left = stepped (a.reads names bindings next) (λ (left : Side). two_sides left (b.reads names bindings (next + variables_of_side left))) ms is in
     two_sides_placed script scope next left.value (b.reads names bindings (next + variables_of_side left.value)) ms
     (side_is_meant script scope next left.value (good.reads names scope bindings next left.value at left.first))
     (λ s e. side_is_meant script scope (next + variables_of_side left.value) s (also.reads names scope bindings (next + variables_of_side left.value) s (later_place script names scope bindings next (variables_of_side left.value) at) e))
-    left.rest
+    left.rest narrow
 
 -- a word over meanings that are read
 word_is_read : (script : Script) (w : Word) (r : Result (List Meaning) FaultKind) (scope : List Binder) (next : ℕ) (m : Meaning) → ((ms : List Meaning) → r ≡ Ok ms → AreMeanings script scope next ms) → (r >>= applied w) ≡ Ok m → IsMeaning script scope next m
@@ -103,12 +104,15 @@ pub word_over_parts : (script : Script) (w : Word) (ps : List Part) (names : Sig
 word_over_parts script w ps names scope bindings next m good at is =
     word_is_read script w (parts_read ps names bindings next) scope next m (λ ms e. parts_are_read script ps names scope bindings next ms good at e) is
 
-pub relation_is_read : (script : Script) (w : Word) (ps : List Part) (names : Signature) (scope : List Binder) (bindings : List Binding) (next : ℕ) (m : Meaning) → AreGoodParts script ps → IsPlace script names scope bindings next → relation_read w ps names bindings next ≡ Ok m → IsMeaning script scope next m
-relation_is_read script w [] names scope bindings next m good at is = word_over_parts script w [] names scope bindings next m good at is
-relation_is_read script w (a ∷ []) names scope bindings next m good at is = word_over_parts script w (a ∷ []) names scope bindings next m good at is
-relation_is_read script w (a ∷ b ∷ []) names scope bindings next m good at is =
-    word_is_read script w (sides_read a b names bindings next) scope next m (λ ms e. sides_are_read script a b names scope bindings next ms good.0 good.1.0 at e) is
-relation_is_read script w (a ∷ b ∷ c ∷ ps) names scope bindings next m good at is = word_over_parts script w (a ∷ b ∷ c ∷ ps) names scope bindings next m good at is
+pub relation_is_read : (script : Script) (w : Word) (ps : List Part) (names : Signature) (scope : List Binder) (bindings : List Binding) (next : ℕ) (m : Meaning) → is_relation w ≡ true → AreGoodParts script ps → IsPlace script names scope bindings next → relation_read w ps names bindings next ≡ Ok m → IsMeaning script scope next m
+relation_is_read script w [] names scope bindings next m relation good at is = word_over_parts script w [] names scope bindings next m good at is
+relation_is_read script w (a ∷ []) names scope bindings next m relation good at is = word_over_parts script w (a ∷ []) names scope bindings next m good at is
+relation_is_read script w (a ∷ b ∷ []) names scope bindings next m relation good at is =
+    let args = stepped (sides_read a b names bindings next) (applied w) m is in
+    applied_placed script scope next w args.value m
+    (sides_are_read script a b names scope bindings next args.value good.0 good.1.0 at args.first (relation_narrow w args.value m relation args.rest))
+    args.rest
+relation_is_read script w (a ∷ b ∷ c ∷ ps) names scope bindings next m relation good at is = word_over_parts script w (a ∷ b ∷ c ∷ ps) names scope bindings next m good at is
 
 -- the first part, and a body
 pub first_is_read : (script : Script) (ps : List Part) (names : Signature) (scope : List Binder) (bindings : List Binding) (next : ℕ) (m : Meaning) → AreGoodParts script ps → IsPlace script names scope bindings next → first_read ps names bindings next ≡ Ok m → IsRead script scope next m

@@ -1,5 +1,6 @@
 -- What it says of the steps of a reading that it gave something.
 use Rattle.std.proofs.Common.{◌≡◌, Bool, true, false, cond, Option, Some, Result, Ok, Err, refl, subst}
+use Rattle.std.specs.Prelude.{not}
 use Rattle.mbqi_values.specs.declared.fault.FaultKind.{FaultKind}
 use Rattle.smtlib_terms.specs.declared.meaning.Meaning.{Meaning}
 use Rattle.smtlib_terms.specs.declared.meaning.Side.{Side}
@@ -25,6 +26,11 @@ passed false r kind a is = cc
 pub not_refused : {A : Type 0} (test : Bool) (r : Result A FaultKind) (kind : FaultKind) (a : A) → cond test (Err kind) r ≡ Ok a → (test ≡ false) × (r ≡ Ok a)
 not_refused true r kind a is = cc
 not_refused false r kind a is = (refl, is)
+
+-- a test that fails
+pub not_so : (test : Bool) → not test ≡ false → test ≡ true
+not_so true is = refl
+not_so false is = cc
 
 -- the first of what there is, or one of the rest
 pub first_or_rest : {A : Type 0} (P : A → Type 0) (own : Bool) (first found : A) (rest : Option A) → P first → (rest ≡ Some found → P found) → cond own (Some first) rest ≡ Some found → P found

@@ -1,8 +1,8 @@
 -- Sums and differences of integers in form are in form.
-use Rattle.std.proofs.Common.{◌≡◌, zero, suc, ◌+◌, ◌^◌, ℕ, ℤ, pos, negsuc, neg_ℤ, ◌-ℤ◌, Bool, true, false, cond, List, [], ◌∷◌, ◌++◌, map, Option, None, Some, Result, Ok, Err, refl, sym, subst}
+use Rattle.std.proofs.Common.{◌≡◌, zero, suc, ◌+◌, ◌-◌, ◌^◌, ℕ, ℤ, pos, negsuc, neg_ℤ, ◌-ℤ◌, Bool, true, false, cond, List, [], ◌∷◌, ◌++◌, map, Option, None, Some, Result, Ok, Err, refl, sym, subst}
 use Rattle.std.specs.Option.{option_to_list}
 use Rattle.mbqi_values.specs.declared.fault.FaultKind.{FaultKind}
-use Rattle.mbqi_values.specs.declared.fault.FaultKind.TheVariants.{OffsetTooWide, WrongCount}
+use Rattle.mbqi_values.specs.declared.fault.FaultKind.TheVariants.{WrongCount}
 use Rattle.mbqi_terms.specs.declared.script.Script.{Script}
 use Rattle.mbqi_terms.specs.declared.sort.Binder.{Binder}
 use Rattle.mbqi_terms.specs.declared.sort.Plain.{Plain}
@@ -19,12 +19,12 @@ use Rattle.smtlib_terms.specs.declared.meaning.Side.{Side}
 use Rattle.smtlib_terms.specs.declared.meaning.Side.TheVariants.{Meant, Difference}
 use Rattle.smtlib_terms.specs.Meaning.{variables_of}
 use Rattle.smtlib_terms.specs.Number.{Sum, bases_of, difference, less, limit_of, negation, negation_of, plus_number, sum_of, sum_of_terms, summed, summed_beside, term_of, total_of}
-use Rattle.smtlib_terms.specs.Operators.{addition, as_integer, as_integers, integer_meant, is_numeral, meant, subtracted, subtraction}
+use Rattle.smtlib_terms.specs.Operators.{addition, as_integer, as_integers, integer_meant, is_numeral, meant, subtracted, subtraction, is_wide_term}
 use Rattle.mbqi_terms.specs.HasSort.{HasSortIn}
 use Rattle.smtlib_terms.specs.InForm.{HasSort}
 use Rattle.read_in_form.proofs.Placed.{AreMeanings, IsMeaning, IsSideMeaning, IsTermOf}
 use Rattle.read_in_form.proofs.SameSorts.{one_plain}
-use Rattle.read_in_form.proofs.Steps.{passed, same_ok, stepped}
+use Rattle.read_in_form.proofs.Steps.{passed, same_ok, stepped, not_so}
 use Rattle.mbqi_terms.specs.Limits.{is_within}
 
 -- integers
@@ -87,11 +87,19 @@ term_has script scope (Some t) n h within = plus_has script scope t n h.0 h.1 wi
 
 summed_has : (script : Script) (scope : List Binder) (base : Option Term) (n : ℤ) (t : Term) → IsBaseOf script scope base → summed base n ≡ Ok t → HasSort script scope t plain.Int
 summed_has script scope base n t h is =
-    let test = passed (is_within (limit_of base) n) (Ok (term_of base n)) OffsetTooWide t is in
+    let test = passed (is_within (limit_of base) n) (Ok (term_of base n)) _ t is in
     subst (λ (u : Term). HasSort script scope u plain.Int) (same_ok (term_of base n) t test.1) (term_has script scope base n h test.0)
 
-pub moved_has : (script : Script) (scope : List Binder) (t : Term) (n : ℤ) (u : Term) → HasSort script scope t plain.Int → summed (sum_of t).base n ≡ Ok u → HasSort script scope u plain.Int
-moved_has script scope t n u h is = summed_has script scope (sum_of t).base n u (base_of script scope t h) is
+-- a number that isn't past its limit
+within_limit : (base : Option Term) (n : ℤ) → is_wide_term (term_of base n) ≡ false → is_within (limit_of base) n ≡ true
+unfolding hidden-the_row-Term-1 hidden
+within_limit None n is = not_so (is_within (2 ^ 63 - 1) n) is
+within_limit (Some t) (pos zero) is = refl
+within_limit (Some t) (pos (suc n)) is = not_so (is_within (2 ^ 59) (pos (suc n))) is
+within_limit (Some t) (negsuc n) is = not_so (is_within (2 ^ 59) (negsuc n)) is
+
+pub moved_has : (script : Script) (scope : List Binder) (t : Term) (n : ℤ) → HasSort script scope t plain.Int → is_wide_term (term_of (sum_of t).base n) ≡ false → HasSort script scope (term_of (sum_of t).base n) plain.Int
+moved_has script scope t n h is = term_has script scope (sum_of t).base n (base_of script scope t h) (within_limit (sum_of t).base n is)
 
 -- the bases of sums
 abbrev AreBases : Script → List Binder → List Term → Type 0

@@ -6,9 +6,12 @@ use Rattle.mbqi_values.specs.declared.fault.FaultKind.TheVariants.{BadForm, Unsu
 use Rattle.mbqi_terms.specs.declared.formula.Formula.{Formula}
 use Rattle.mbqi_terms.specs.declared.sort.Sort.{Sort}
 use Rattle.sexpr_text.specs.declared.tree.Sexpr.{Sexpr}
+use Rattle.sexpr_text.specs.declared.tree.Sexpr.TheVariants as tree
 use Rattle.sexpr_text.specs.Trees.{numeral_in}
-use Rattle.smtlib_terms.specs.Declaring.{Declarations, definition_parts, formula_read, function_declared, macro_defined, sort_declared, sort_read}
+use Rattle.smtlib_terms.specs.Declaring.{Declarations, definition_parts, function_declared, macro_defined, sort_declared, sort_read, term_read}
+use Rattle.smtlib_terms.specs.declared.meaning.Meaning.{Meaning}
 use Rattle.smtlib_terms.specs.Names.{◌>>=◌}
+use Rattle.smtlib_terms.specs.Operators.{as_formula}
 use Rattle.smtlib_terms.specs.Reading.{is_list, is_some_symbol, text_of, trees_in}
 use Rattle.smtlib_terms.specs.Words.{is_one_of, is_text, passed_over_words}
 use Rattle.smtlib_decls.specs.declared.command.Command.{Command}
@@ -104,12 +107,17 @@ abbrev pub with_assertion : Progress → Option (List ℕ) → Formula → Progr
 with_assertion p label f =
     record { names = p.names; assertions = p.assertions ++ record { label = label; formula = f } ∷ []; asks = p.asks }
 
-abbrev pub asserted : Progress → Option (List ℕ) → Formula → Result Progress FaultKind
-asserted p label f = unless_asked p (if is_taken label p.assertions then Err Twice else Ok (with_assertion p label f))
+-- A label that no assertion has, or none, and a term that is a formula.
+abbrev pub labelled : Progress → Option (List ℕ) → Meaning → Result Progress FaultKind
+labelled p label m =
+    if is_taken label p.assertions then Err Twice else as_formula m >>= (λ f. Ok (with_assertion p label f))
+
+abbrev pub asserted : Progress → Option (List ℕ) → Meaning → Result Progress FaultKind
+asserted p label m = unless_asked p (labelled p label m)
 
 -- `(assert t)`
 abbrev pub assertion_command : Progress → List Sexpr → Result Progress FaultKind
-assertion_command p (t ∷ []) = label_of t >>= (λ label. formula_read p.names t >>= (λ f. asserted p label f))
+assertion_command p (t ∷ []) = label_of t >>= (λ label. term_read p.names t >>= asserted p label)
 assertion_command p parts = Err BadForm
 
 -- `(check-sat)`, once.

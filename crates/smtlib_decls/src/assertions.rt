@@ -3,24 +3,26 @@
 ghost use Rattle.std.specs.Prelude.{◌≡◌};
 ghost use Rattle.smtlib_decls.specs.Commands.{asserted, assertion_command, question_command};
 ghost use Rattle.smtlib_decls.specs.Takes.{Takes};
+ghost use Rattle.operator_arguments.specs.Measured.{meaning_of};
 
 use crate::label::label_of;
 use crate::progress::Progress;
-use mbqi_terms::Formula;
 use mbqi_values::{FaultKind, ReadError, Text};
+use operator_arguments::MeasuredMeaning;
 use sexpr_text::Sexpr;
 use smtlib_terms::refused;
 use std::alloc::Global;
-use term_reader::read_formula;
+use term_reader::read_closed_term;
 
-/// Asserts a formula, with its label.
-fn take_formula(
+/// Asserts a term that was read, with its label. Refused: Unsupported behind the question, Twice where an earlier
+/// assertion has the label, and then WrongSort where the term is no formula.
+fn take_term(
     alloc: Global,
     progress: &mut Progress,
     label: Option<Text>,
-    formula: Formula,
+    term: MeasuredMeaning,
 ) -> Result<(), ReadError>
-    ensures { Takes result progress.new (asserted progress.old label formula) }
+    ensures { Takes result progress.new (asserted progress.old label (meaning_of term)) }
 {
     if progress.asks {
         return Err(refused(FaultKind::Unsupported));
@@ -28,6 +30,10 @@ fn take_formula(
     if progress.assertions.is_taken(&label) {
         return Err(refused(FaultKind::Twice));
     }
+    let Some(formula) = term.into_formula() else {
+        return Err(refused(FaultKind::WrongSort));
+    };
+    let formula = formula.into_formula();
     progress.assertions.push(alloc, label, formula)?;
     Ok(())
 }
@@ -44,8 +50,8 @@ pub fn take_assertion(
         return Err(refused(FaultKind::BadForm));
     };
     let label = label_of(alloc, tree)?;
-    let formula = read_formula(alloc, &progress.names, tree)?;
-    take_formula(alloc, progress, label, formula)
+    let term = read_closed_term(alloc, &progress.names, tree)?;
+    take_term(alloc, progress, label, term)
 }
 
 /// Takes `(check-sat)`, behind its word.

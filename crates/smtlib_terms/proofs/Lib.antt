@@ -1,3 +1,4 @@
+pub mod DeepRows
 pub mod Rows
 pub mod SortTrees
 pub mod Steps

@@ -74,9 +74,12 @@ names_of d = signature_of d d.macros
 abbrev pub names_before : Declarations → ℕ → Signature
 names_before d macros = signature_of d (take macros d.macros)
 
--- A sort's and a formula's meaning by the declarations, or the first fault.
+-- A sort's, a term's and a formula's meaning by the declarations, or the first fault.
 abbrev pub sort_read : Declarations → Sexpr → Result Sort FaultKind
 sort_read d t = sort_meant t d.sorts
+
+unfoldable pub term_read : Declarations → Sexpr → Result Meaning FaultKind
+term_read d t = meant_by t (names_of d) [] 0
 
 unfoldable pub formula_read : Declarations → Sexpr → Result Formula FaultKind
 formula_read d t = meant_by t (names_of d) [] 0 >>= as_formula

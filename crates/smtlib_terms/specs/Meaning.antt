@@ -38,6 +38,10 @@ depth_of (meaning.Array i e a) = depth_of_array a
 abbrev pub shallow : Meaning → Result Meaning FaultKind
 shallow m = if nat_le (depth_of m) depth_limit then Ok m else Err TooDeep
 
+-- The kind of a refusal of what has a tree all the same: where the tree is too deep, this comes first.
+abbrev pub unless_deep : FaultKind → ℕ → FaultKind
+unless_deep kind depth = if nat_le depth depth_limit then kind else TooDeep
+
 abbrev pub variables_of : Meaning → ℕ
 variables_of (meaning.Formula f) = variables_in f
 variables_of (meaning.Term s t) = 0

@@ -6,6 +6,8 @@ use Rattle.mbqi_values.specs.declared.fault.FaultKind.TheVariants.{NotDifference
 use Rattle.mbqi_terms.specs.declared.term.Term.{Term, more_of-Term, end_of-Term}
 use Rattle.mbqi_terms.specs.declared.term.Term.TheVariants as term
 use Rattle.mbqi_terms.specs.Limits.{is_within}
+use Rattle.mbqi_terms.specs.Depth.{depth_of_term}
+use Rattle.smtlib_terms.specs.Meaning.{unless_deep}
 
 -- An integer term of the profile: at most one term that is neither a numeral nor a sum, and a whole number.
 pub record Sum : Type 0 where
@@ -35,7 +37,8 @@ limit_of (Some t) = 2 ^ 59
 
 -- The term of a sum whose number is within its limit.
 abbrev pub summed : Option Term → ℤ → Result Term FaultKind
-summed base n = if is_within (limit_of base) n then Ok (term_of base n) else Err OffsetTooWide
+summed base n =
+    if is_within (limit_of base) n then Ok (term_of base n) else Err (unless_deep OffsetTooWide (depth_of_term (term_of base n)))
 
 abbrev pub bases_of : List Sum → List Term
 bases_of sums = flat_map (λ (s : Sum). option_to_list s.base) sums

@@ -12,4 +12,4 @@ mod refusal;
 pub mod word;
 
 pub use meaning::DEPTH_LIMIT;
-pub use refusal::refused;
+pub use refusal::{refused, refused_unless_deep};

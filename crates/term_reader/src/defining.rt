@@ -2,8 +2,8 @@
 
 ghost use Rattle.std.specs.Prelude.{◌≡◌, [], false, Ok, IfErr, IfOk, OnOk};
 ghost use Rattle.smtlib_terms.specs.Answers.{Answers, Declares, IsFault};
-ghost use Rattle.smtlib_terms.specs.Declaring.{arguments, body_meant, definition_described, definition_of, definition_parts, formula_read, is_definition, is_function, macro_defined, macro_meant, may_define, names_of, opaque_from};
-ghost use Rattle.smtlib_terms.specs.Reading.{meant_by, trees_in};
+ghost use Rattle.smtlib_terms.specs.Declaring.{arguments, body_meant, definition_described, definition_of, definition_parts, formula_read, is_definition, is_function, macro_defined, macro_meant, may_define, opaque_from, term_read};
+ghost use Rattle.smtlib_terms.specs.Reading.{trees_in, is_list};
 ghost use Rattle.operator_arguments.specs.Measured.{Means, meaning_of};
 
 use crate::macros::{arguments, macro_of, opaque_from};
@@ -22,20 +22,25 @@ use smtlib_terms::refused;
 use smtlib_terms::word::is_reserved;
 use std::alloc::Global;
 
-/// What a tree means where nothing is bound.
-fn closed_meaning(alloc: Global, names: &Names, tree: &Sexpr) -> Result<MeasuredMeaning, ReadError>
-    ensures { Means meaning_of result (meant_by tree.now (names_of names.now) [] 0) }
+/// What a tree means where nothing is bound. Refused: the first fault in the order of docs/DEFINITIONS.md; its place is 0.
+#[tactic(auto, unfolding(smtlib_terms::specs::Declaring::term_read))]
+pub fn read_closed_term(
+    alloc: Global,
+    names: &Names,
+    tree: &Sexpr,
+) -> Result<MeasuredMeaning, ReadError>
+    ensures { Means meaning_of result (term_read names.now tree.now) }
 {
     let mut scope = Scope::new(alloc);
     read_term(alloc, names, &mut scope, tree)
 }
 
 /// The formula that a tree means. Refused: the first fault in the order of docs/DEFINITIONS.md; its place is 0.
-#[tactic(auto, unfolding(smtlib_terms::specs::Declaring::formula_read))]
+#[tactic(auto, unfolding(smtlib_terms::specs::Declaring::formula_read, smtlib_terms::specs::Declaring::term_read))]
 pub fn read_formula(alloc: Global, names: &Names, tree: &Sexpr) -> Result<Formula, ReadError>
     ensures { Answers result (formula_read names.now tree.now) }
 {
-    match closed_meaning(alloc, names, tree)?.into_formula() {
+    match read_closed_term(alloc, names, tree)?.into_formula() {
         Some(f) => Ok(f.into_formula()),
         None => Err(refused(FaultKind::WrongSort)),
     }

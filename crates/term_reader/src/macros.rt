@@ -10,6 +10,7 @@ use crate::scope::{Binding, Bindings, Bound};
 use array_operators::application;
 use mbqi_terms::{Sorts, copy_text};
 use mbqi_values::Sequence;
+use measured_terms::MeasuredTerms;
 use moved_terms::{Shift, measured_array, measured_term, moved_formula};
 use operator_arguments::{Meanings, MeasuredMeaning, Queue};
 use sexpr_text::Sexpr;
@@ -72,7 +73,7 @@ pub fn opaque_from(
     let mut args = Sequence::new(alloc);
     let mut number = first;
     for parameter in parameters {
-        args.push(application(alloc, number, Sequence::new(alloc), parameter.sort)?)?;
+        args.push(application(number, MeasuredTerms::new(alloc), parameter.sort)?)?;
         let following = number_behind(number)?;
         number = following;
     }
