@@ -1,6 +1,7 @@
 //! The text of a shown model.
 
-ghost use Rattle.std.specs.Prelude.{◌≡◌, ◌++◌, map, OnOk};
+ghost use Rattle.std.specs.Prelude.{◌≡◌, ◌++◌, map, OnOk, OnErr};
+ghost use Rattle.std.specs.Io.{StartsWith};
 ghost use Rattle.mbqi_app.specs.ModelText.{value_text, values_text, row_text, table_text, tables_text, sort_text, sorts_text, model_text};
 ghost use Rattle.smtlib_printer.specs.Text.{list_text, spaced_rest};
 
@@ -18,7 +19,8 @@ pub fn write_model(
     model: &FunctionModel,
     into: &mut Vec<u8>,
 ) -> Result<(), AllocError>
-    ensures { OnOk result (into.new.items ≡ into.old.items ++ model_text script.now model.now) }
+    ensures ok { OnOk result (into.new.items ≡ into.old.items ++ model_text script.now model.now) }
+    ensures err { OnErr result (StartsWith into.new.items into.old.items) }
 {
     into.extend_from_slice(b"sat\n(model 1\n")?;
     write_sorts(script.sorts.as_slice(), model.sizes.as_slice(), into)?;
@@ -29,7 +31,8 @@ pub fn write_model(
 
 #[tactic(auto, using(crate::proofs::TextLines::sorts_text_end, crate::proofs::TextLines::sorts_text_next))]
 fn write_sorts(names: &[Text], sizes: &[u64], into: &mut Vec<u8>) -> Result<(), AllocError>
-    ensures { OnOk result (into.new.items ≡ into.old.items ++ sorts_text names.now sizes.now) }
+    ensures ok { OnOk result (into.new.items ≡ into.old.items ++ sorts_text names.now sizes.now) }
+    ensures err { OnErr result (StartsWith into.new.items into.old.items) }
 {
     for at in 0..names.len().min(sizes.len()) {
         write_sort(names[at].as_slice(), sizes[at], into)?;
@@ -38,7 +41,8 @@ fn write_sorts(names: &[Text], sizes: &[u64], into: &mut Vec<u8>) -> Result<(), 
 }
 
 fn write_sort(name: &[u8], size: u64, into: &mut Vec<u8>) -> Result<(), AllocError>
-    ensures { OnOk result (into.new.items ≡ into.old.items ++ sort_text name.now size) }
+    ensures ok { OnOk result (into.new.items ≡ into.old.items ++ sort_text name.now size) }
+    ensures err { OnErr result (StartsWith into.new.items into.old.items) }
 {
     into.extend_from_slice(b"(sort ")?;
     write_name(name, into)?;
@@ -53,7 +57,8 @@ fn write_tables(
     tables: &[Table],
     into: &mut Vec<u8>,
 ) -> Result<(), AllocError>
-    ensures { OnOk result (into.new.items ≡ into.old.items ++ tables_text functions.now tables.now) }
+    ensures ok { OnOk result (into.new.items ≡ into.old.items ++ tables_text functions.now tables.now) }
+    ensures err { OnErr result (StartsWith into.new.items into.old.items) }
 {
     for at in 0..functions.len().min(tables.len()) {
         write_table(&functions[at], &tables[at], into)?;
@@ -62,7 +67,8 @@ fn write_tables(
 }
 
 fn write_table(function: &Function, table: &Table, into: &mut Vec<u8>) -> Result<(), AllocError>
-    ensures { OnOk result (into.new.items ≡ into.old.items ++ table_text function.now table.now) }
+    ensures ok { OnOk result (into.new.items ≡ into.old.items ++ table_text function.now table.now) }
+    ensures err { OnErr result (StartsWith into.new.items into.old.items) }
 {
     into.extend_from_slice(b"(fun ")?;
     write_name(function.name.as_slice(), into)?;
@@ -76,7 +82,8 @@ fn write_table(function: &Function, table: &Table, into: &mut Vec<u8>) -> Result
 }
 
 fn write_knots(knots: &[Values], into: &mut Vec<u8>) -> Result<(), AllocError>
-    ensures { OnOk result (into.new.items ≡ into.old.items ++ list_text (map values_text knots.now)) }
+    ensures ok { OnOk result (into.new.items ≡ into.old.items ++ list_text (map values_text knots.now)) }
+    ensures err { OnErr result (StartsWith into.new.items into.old.items) }
 {
     into.extend_from_slice(b"(")?;
     if let [first, rest @ ..] = knots {
@@ -88,7 +95,8 @@ fn write_knots(knots: &[Values], into: &mut Vec<u8>) -> Result<(), AllocError>
 
 /// The knots of further arguments, each behind a blank.
 fn write_more_knots(knots: &[Values], into: &mut Vec<u8>) -> Result<(), AllocError>
-    ensures { OnOk result (into.new.items ≡ into.old.items ++ spaced_rest (map values_text knots.now)) }
+    ensures ok { OnOk result (into.new.items ≡ into.old.items ++ spaced_rest (map values_text knots.now)) }
+    ensures err { OnErr result (StartsWith into.new.items into.old.items) }
 {
     for values in knots {
         into.extend_from_slice(b" ")?;
@@ -98,7 +106,8 @@ fn write_more_knots(knots: &[Values], into: &mut Vec<u8>) -> Result<(), AllocErr
 }
 
 fn write_rows(rows: &[Row], into: &mut Vec<u8>) -> Result<(), AllocError>
-    ensures { OnOk result (into.new.items ≡ into.old.items ++ list_text (map row_text rows.now)) }
+    ensures ok { OnOk result (into.new.items ≡ into.old.items ++ list_text (map row_text rows.now)) }
+    ensures err { OnErr result (StartsWith into.new.items into.old.items) }
 {
     into.extend_from_slice(b"(")?;
     if let [first, rest @ ..] = rows {
@@ -110,7 +119,8 @@ fn write_rows(rows: &[Row], into: &mut Vec<u8>) -> Result<(), AllocError>
 
 /// Further rows, each behind a blank.
 fn write_more_rows(rows: &[Row], into: &mut Vec<u8>) -> Result<(), AllocError>
-    ensures { OnOk result (into.new.items ≡ into.old.items ++ spaced_rest (map row_text rows.now)) }
+    ensures ok { OnOk result (into.new.items ≡ into.old.items ++ spaced_rest (map row_text rows.now)) }
+    ensures err { OnErr result (StartsWith into.new.items into.old.items) }
 {
     for row in rows {
         into.extend_from_slice(b" ")?;
@@ -120,7 +130,8 @@ fn write_more_rows(rows: &[Row], into: &mut Vec<u8>) -> Result<(), AllocError>
 }
 
 fn write_row(row: &Row, into: &mut Vec<u8>) -> Result<(), AllocError>
-    ensures { OnOk result (into.new.items ≡ into.old.items ++ row_text row.now) }
+    ensures ok { OnOk result (into.new.items ≡ into.old.items ++ row_text row.now) }
+    ensures err { OnErr result (StartsWith into.new.items into.old.items) }
 {
     into.extend_from_slice(b"(")?;
     write_values(row.places.as_slice(), into)?;
@@ -130,7 +141,8 @@ fn write_row(row: &Row, into: &mut Vec<u8>) -> Result<(), AllocError>
 }
 
 fn write_values(values: &[Value], into: &mut Vec<u8>) -> Result<(), AllocError>
-    ensures { OnOk result (into.new.items ≡ into.old.items ++ values_text values.now) }
+    ensures ok { OnOk result (into.new.items ≡ into.old.items ++ values_text values.now) }
+    ensures err { OnErr result (StartsWith into.new.items into.old.items) }
 {
     into.extend_from_slice(b"(")?;
     if let [first, rest @ ..] = values {
@@ -142,7 +154,8 @@ fn write_values(values: &[Value], into: &mut Vec<u8>) -> Result<(), AllocError>
 
 /// Further values, each behind a blank.
 fn write_more_values(values: &[Value], into: &mut Vec<u8>) -> Result<(), AllocError>
-    ensures { OnOk result (into.new.items ≡ into.old.items ++ spaced_rest (map value_text values.now)) }
+    ensures ok { OnOk result (into.new.items ≡ into.old.items ++ spaced_rest (map value_text values.now)) }
+    ensures err { OnErr result (StartsWith into.new.items into.old.items) }
 {
     for value in values {
         into.extend_from_slice(b" ")?;
@@ -152,7 +165,8 @@ fn write_more_values(values: &[Value], into: &mut Vec<u8>) -> Result<(), AllocEr
 }
 
 fn write_value(value: Value, into: &mut Vec<u8>) -> Result<(), AllocError>
-    ensures { OnOk result (into.new.items ≡ into.old.items ++ value_text value) }
+    ensures ok { OnOk result (into.new.items ≡ into.old.items ++ value_text value) }
+    ensures err { OnErr result (StartsWith into.new.items into.old.items) }
 {
     match value {
         Value::Num(number) => write_number(number, into),

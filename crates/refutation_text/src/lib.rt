@@ -4,7 +4,8 @@
 
 #![tactic(auto)]
 
-ghost use Rattle.std.specs.Prelude.{◌≡◌, ◌++◌, OnOk};
+ghost use Rattle.std.specs.Prelude.{◌≡◌, ◌++◌, OnOk, OnErr};
+ghost use Rattle.std.specs.Io.{StartsWith};
 ghost use Rattle.refutation_text.specs.RefutationText.{instance_text, instances_text, refutation_text};
 
 #[cfg(test)]
@@ -16,14 +17,15 @@ use smtlib_printer::{question_marks, write_formula_with, write_terms_with};
 use std::alloc::AllocError;
 
 /// Appends the lines of a refutation of the script: `unsat`, the instances in order, and the closing bracket. The
-/// one error is want of memory, after which a front of the text may stand there.
+/// one error is want of memory, after which `into` begins with what it held.
 #[tactic(auto, unfolding(crate::specs::RefutationText::refutation_text))]
 pub fn write_refutation(
     script: &Script,
     lines: &[InstanceLine],
     into: &mut Vec<u8>,
 ) -> Result<(), AllocError>
-    ensures { OnOk result (into.new.items ≡ into.old.items ++ refutation_text script.now lines.now) }
+    ensures ok { OnOk result (into.new.items ≡ into.old.items ++ refutation_text script.now lines.now) }
+    ensures err { OnErr result (StartsWith into.new.items into.old.items) }
 {
     into.extend_from_slice(b"unsat\n(refutation 1\n")?;
     write_instances(script, question_marks(script), lines, into)?;
@@ -37,7 +39,8 @@ fn write_instances(
     lines: &[InstanceLine],
     into: &mut Vec<u8>,
 ) -> Result<(), AllocError>
-    ensures { OnOk result (into.new.items ≡ into.old.items ++ instances_text script.now marks lines.now) }
+    ensures ok { OnOk result (into.new.items ≡ into.old.items ++ instances_text script.now marks lines.now) }
+    ensures err { OnErr result (StartsWith into.new.items into.old.items) }
 {
     for line in lines {
         write_instance(script, marks, line, into)?;
@@ -52,7 +55,8 @@ fn write_instance(
     line: &InstanceLine,
     into: &mut Vec<u8>,
 ) -> Result<(), AllocError>
-    ensures { OnOk result (into.new.items ≡ into.old.items ++ instance_text script.now marks line.now) }
+    ensures ok { OnOk result (into.new.items ≡ into.old.items ++ instance_text script.now marks line.now) }
+    ensures err { OnErr result (StartsWith into.new.items into.old.items) }
 {
     into.extend_from_slice(b"(instance ")?;
     into.extend_from_slice(Buffer::new().format(line.assertion).as_bytes())?;

@@ -1,6 +1,7 @@
 //! Formulas.
 
-ghost use Rattle.std.specs.Prelude.{◌≡◌, ◌++◌, ◌∷◌, [], map, codes, OnOk};
+ghost use Rattle.std.specs.Prelude.{◌≡◌, ◌++◌, ◌∷◌, [], map, codes, OnOk, OnErr};
+ghost use Rattle.std.specs.Io.{StartsWith};
 ghost use Rattle.smtlib_printer.specs.Text.{array_text_with, binders_text, formula_text_with, list_text, spaced_rest, term_text_with};
 
 use crate::sorts::{write_binders, write_truth};
@@ -16,7 +17,8 @@ pub fn write_formula_with(
     formula: &Formula,
     into: &mut Vec<u8>,
 ) -> Result<(), AllocError>
-    ensures { OnOk result (into.new.items ≡ into.old.items ++ formula_text_with script.now marks formula.now) }
+    ensures ok { OnOk result (into.new.items ≡ into.old.items ++ formula_text_with script.now marks formula.now) }
+    ensures err { OnErr result (StartsWith into.new.items into.old.items) }
 {
     match formula {
         Formula::Truth(truth) => write_truth(*truth, into),
@@ -67,7 +69,8 @@ fn write_bound(
     f: &Formula,
     into: &mut Vec<u8>,
 ) -> Result<(), AllocError>
-    ensures { OnOk result (into.new.items ≡ into.old.items ++ list_text (quantifier.now ∷ binders_text script.now marks bound.now ∷ formula_text_with script.now marks f.now ∷ [])) }
+    ensures ok { OnOk result (into.new.items ≡ into.old.items ++ list_text (quantifier.now ∷ binders_text script.now marks bound.now ∷ formula_text_with script.now marks f.now ∷ [])) }
+    ensures err { OnErr result (StartsWith into.new.items into.old.items) }
 {
     into.extend_from_slice(b"(")?;
     into.extend_from_slice(quantifier)?;
@@ -87,7 +90,8 @@ fn write_joined(
     formulas: &[Formula],
     into: &mut Vec<u8>,
 ) -> Result<(), AllocError>
-    ensures { OnOk result (into.new.items ≡ into.old.items ++ list_text (connective.now ∷ map (formula_text_with script.now marks) formulas.now)) }
+    ensures ok { OnOk result (into.new.items ≡ into.old.items ++ list_text (connective.now ∷ map (formula_text_with script.now marks) formulas.now)) }
+    ensures err { OnErr result (StartsWith into.new.items into.old.items) }
 {
     into.extend_from_slice(b"(")?;
     into.extend_from_slice(connective)?;
@@ -103,7 +107,8 @@ fn write_more_formulas(
     formulas: &[Formula],
     into: &mut Vec<u8>,
 ) -> Result<(), AllocError>
-    ensures { OnOk result (into.new.items ≡ into.old.items ++ spaced_rest (map (formula_text_with script.now marks) formulas.now)) }
+    ensures ok { OnOk result (into.new.items ≡ into.old.items ++ spaced_rest (map (formula_text_with script.now marks) formulas.now)) }
+    ensures err { OnErr result (StartsWith into.new.items into.old.items) }
 {
     for f in formulas {
         into.extend_from_slice(b" ")?;
@@ -121,7 +126,8 @@ fn write_terms(
     t: &Term,
     into: &mut Vec<u8>,
 ) -> Result<(), AllocError>
-    ensures { OnOk result (into.new.items ≡ into.old.items ++ list_text (relation.now ∷ term_text_with script.now marks s.now ∷ term_text_with script.now marks t.now ∷ [])) }
+    ensures ok { OnOk result (into.new.items ≡ into.old.items ++ list_text (relation.now ∷ term_text_with script.now marks s.now ∷ term_text_with script.now marks t.now ∷ [])) }
+    ensures err { OnErr result (StartsWith into.new.items into.old.items) }
 {
     into.extend_from_slice(b"(")?;
     into.extend_from_slice(relation)?;
@@ -140,7 +146,8 @@ fn write_same_arrays(
     b: &ArrayTerm,
     into: &mut Vec<u8>,
 ) -> Result<(), AllocError>
-    ensures { OnOk result (into.new.items ≡ into.old.items ++ list_text (codes "=" ∷ array_text_with script.now marks a.now ∷ array_text_with script.now marks b.now ∷ [])) }
+    ensures ok { OnOk result (into.new.items ≡ into.old.items ++ list_text (codes "=" ∷ array_text_with script.now marks a.now ∷ array_text_with script.now marks b.now ∷ [])) }
+    ensures err { OnErr result (StartsWith into.new.items into.old.items) }
 {
     into.extend_from_slice(b"(= ")?;
     write_array_with(script, marks, a, into)?;

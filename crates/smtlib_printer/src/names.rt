@@ -1,6 +1,7 @@
 //! Names of a script, and those of its variables.
 
-ghost use Rattle.std.specs.Prelude.{◌≡◌, ◌<◌, ℕ, true, false, ◌++◌, ◌==◌, OnOk};
+ghost use Rattle.std.specs.Prelude.{◌≡◌, ◌<◌, ℕ, true, false, ◌++◌, ◌==◌, OnOk, OnErr};
+ghost use Rattle.std.specs.Io.{StartsWith};
 ghost use Rattle.std.specs.List.{list_all, list_any};
 ghost use Rattle.smtlib_printer.specs.Names.{begins_with, function_name, is_begun, longest, longest_function, marks_of, name_text, sort_name, variable_text};
 
@@ -14,7 +15,8 @@ use std::alloc::AllocError;
 /// Appends a name: between bars where it is no simple symbol, or is a reserved word. The one error is want of memory,
 /// after which a front of the text may stand there.
 pub fn write_name(name: &[u8], into: &mut Vec<u8>) -> Result<(), AllocError>
-    ensures { OnOk result (into.new.items ≡ into.old.items ++ name_text name.now) }
+    ensures ok { OnOk result (into.new.items ≡ into.old.items ++ name_text name.now) }
+    ensures err { OnErr result (StartsWith into.new.items into.old.items) }
 {
     if is_simple(name) && !is_reserved_word(name) {
         return into.extend_from_slice(name);
@@ -30,7 +32,8 @@ pub(crate) fn write_sort_name(
     sort: usize,
     into: &mut Vec<u8>,
 ) -> Result<(), AllocError>
-    ensures { OnOk result (into.new.items ≡ into.old.items ++ sort_name script.now sort) }
+    ensures ok { OnOk result (into.new.items ≡ into.old.items ++ sort_name script.now sort) }
+    ensures err { OnErr result (StartsWith into.new.items into.old.items) }
 {
     match script.sorts.get(sort) {
         Some(name) => write_name(name.as_slice(), into),
@@ -44,7 +47,8 @@ pub(crate) fn write_function_name(
     function: usize,
     into: &mut Vec<u8>,
 ) -> Result<(), AllocError>
-    ensures { OnOk result (into.new.items ≡ into.old.items ++ function_name script.now function) }
+    ensures ok { OnOk result (into.new.items ≡ into.old.items ++ function_name script.now function) }
+    ensures err { OnErr result (StartsWith into.new.items into.old.items) }
 {
     match script.functions.get(function) {
         Some(declared) => write_name(declared.name.as_slice(), into),
@@ -59,7 +63,8 @@ pub(crate) fn write_variable(
     place: usize,
     into: &mut Vec<u8>,
 ) -> Result<(), AllocError>
-    ensures { OnOk result (into.new.items ≡ into.old.items ++ variable_text marks place) }
+    ensures ok { OnOk result (into.new.items ≡ into.old.items ++ variable_text marks place) }
+    ensures err { OnErr result (StartsWith into.new.items into.old.items) }
 {
     for _at in 0..marks {
         into.push(b'?')?;

@@ -1,6 +1,7 @@
 //! Terms and array terms.
 
-ghost use Rattle.std.specs.Prelude.{◌≡◌, ◌&&◌, [], ◌∷◌, ◌++◌, map, codes, decimal, OnOk};
+ghost use Rattle.std.specs.Prelude.{◌≡◌, ◌&&◌, [], ◌∷◌, ◌++◌, map, codes, decimal, OnOk, OnErr};
+ghost use Rattle.std.specs.Io.{StartsWith};
 ghost use Rattle.smtlib_printer.specs.Text.{array_text_with, is_nothing, spaced, spaced_rest, symbol_text_with, term_text_with, terms_text_with};
 
 use crate::names::{write_function_name, write_sort_name, write_variable};
@@ -17,7 +18,8 @@ pub fn write_term_with(
     term: &Term,
     into: &mut Vec<u8>,
 ) -> Result<(), AllocError>
-    ensures { OnOk result (into.new.items ≡ into.old.items ++ term_text_with script.now marks term.now) }
+    ensures ok { OnOk result (into.new.items ≡ into.old.items ++ term_text_with script.now marks term.now) }
+    ensures err { OnErr result (StartsWith into.new.items into.old.items) }
 {
     match term {
         Term::Num(n) => write_number(*n, into),
@@ -86,8 +88,9 @@ fn write_symbol(
     symbol: &Symbol,
     into: &mut Vec<u8>,
 ) -> Result<(), AllocError>
-    ensures { let text = symbol_text_with script.now marks symbol.now in
+    ensures ok { let text = symbol_text_with script.now marks symbol.now in
         OnOk result (into.new.items ≡ into.old.items ++ spaced (text.word ∷ text.own)) }
+    ensures err { OnErr result (StartsWith into.new.items into.old.items) }
 {
     match symbol {
         Symbol::Declared(function) => write_function_name(script, *function, into),
@@ -107,7 +110,8 @@ fn write_symbol(
 }
 
 fn write_skolem(assertion: usize, place: usize, into: &mut Vec<u8>) -> Result<(), AllocError>
-    ensures { OnOk result (into.new.items ≡ into.old.items ++ spaced (codes "@sk" ∷ decimal assertion ∷ decimal place ∷ [])) }
+    ensures ok { OnOk result (into.new.items ≡ into.old.items ++ spaced (codes "@sk" ∷ decimal assertion ∷ decimal place ∷ [])) }
+    ensures err { OnErr result (StartsWith into.new.items into.old.items) }
 {
     into.extend_from_slice(b"@sk ")?;
     into.extend_from_slice(Buffer::new().format(assertion).as_bytes())?;
@@ -122,7 +126,8 @@ pub fn write_terms_with(
     terms: &[Term],
     into: &mut Vec<u8>,
 ) -> Result<(), AllocError>
-    ensures { OnOk result (into.new.items ≡ into.old.items ++ terms_text_with script.now marks terms.now) }
+    ensures ok { OnOk result (into.new.items ≡ into.old.items ++ terms_text_with script.now marks terms.now) }
+    ensures err { OnErr result (StartsWith into.new.items into.old.items) }
 {
     into.extend_from_slice(b"(")?;
     if let [first, rest @ ..] = terms {
@@ -140,7 +145,8 @@ fn write_more_terms(
     terms: &[Term],
     into: &mut Vec<u8>,
 ) -> Result<(), AllocError>
-    ensures { OnOk result (into.new.items ≡ into.old.items ++ spaced_rest (map (term_text_with script.now marks) terms.now)) }
+    ensures ok { OnOk result (into.new.items ≡ into.old.items ++ spaced_rest (map (term_text_with script.now marks) terms.now)) }
+    ensures err { OnErr result (StartsWith into.new.items into.old.items) }
 {
     for t in terms {
         into.extend_from_slice(b" ")?;
@@ -157,7 +163,8 @@ pub fn write_array_with(
     array: &ArrayTerm,
     into: &mut Vec<u8>,
 ) -> Result<(), AllocError>
-    ensures { OnOk result (into.new.items ≡ into.old.items ++ array_text_with script.now marks array.now) }
+    ensures ok { OnOk result (into.new.items ≡ into.old.items ++ array_text_with script.now marks array.now) }
+    ensures err { OnErr result (StartsWith into.new.items into.old.items) }
 {
     match array {
         ArrayTerm::Name(function) => write_function_name(script, *function, into),
@@ -198,7 +205,8 @@ fn write_more_arrays(
     arrays: &[ArrayTerm],
     into: &mut Vec<u8>,
 ) -> Result<(), AllocError>
-    ensures { OnOk result (into.new.items ≡ into.old.items ++ spaced_rest (map (array_text_with script.now marks) arrays.now)) }
+    ensures ok { OnOk result (into.new.items ≡ into.old.items ++ spaced_rest (map (array_text_with script.now marks) arrays.now)) }
+    ensures err { OnErr result (StartsWith into.new.items into.old.items) }
 {
     for a in arrays {
         into.extend_from_slice(b" ")?;
