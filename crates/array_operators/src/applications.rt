@@ -54,7 +54,11 @@ fn terms_of(alloc: Global, args: Meanings) -> Result<MeasuredTerms, ReadError>
 }
 
 /// An application of the function of a number, whose result has a plain sort.
-fn applied_to(number: usize, args: MeasuredTerms, sort: Plain) -> Result<MeasuredMeaning, AllocError>
+fn applied_to(
+    number: usize,
+    args: MeasuredTerms,
+    sort: Plain,
+) -> Result<MeasuredMeaning, AllocError>
     ensures { IfOk result (λ m. meaning_of m ≡ application number args (plain_sort sort)) }
 {
     Ok(term_meant(

@@ -275,10 +275,7 @@ pub fn is_wide(t: &MeasuredTerm) -> bool
     match t.as_term() {
         Term::Num(n) => !is_numeral_number(*n),
         Term::Plus(_, n) => !is_offset(*n),
-        Term::Var(_)
-        | Term::Truth(_)
-        | Term::Apply(_, _)
-        | Term::Read(_, _)
-        | Term::Default(_) => false,
+        Term::Var(_) | Term::Truth(_) | Term::Apply(_, _) | Term::Read(_, _) | Term::Default(_) =>
+            false,
     }
 }

@@ -384,7 +384,9 @@ fn deep_script(
     asserted: &str,
 ) -> Result<(String, usize), AllocError> {
     let mut text = String::new(alloc);
-    text.push_str("(declare-fun f (Int) Int)(declare-const c Int)(declare-const a (Array Int Int))")?;
+    text.push_str(
+        "(declare-fun f (Int) Int)(declare-const c Int)(declare-const a (Array Int Int))",
+    )?;
     text.push_str("(define-fun g ((x Int)) Int ")?;
     text.push_str(&around(alloc, "f", 27, "x")?)?;
     text.push_str(")(define-fun t ((x Int)) Int ")?;
@@ -427,7 +429,10 @@ fn depth_is_judged_before_other_faults_of_a_node(rt: HostRuntime) -> Result<(), 
     let alloc = rt.alloc();
     for (asserted, kind) in DEEP {
         let (deep, at) = deep_script(alloc, 37, 999, asserted)?;
-        assert!(rt; is_refused(alloc, PRINT, &deep, at, FaultKind::TooDeep)?, "{asserted}");
+        assert!(rt;
+            is_refused(alloc, PRINT, &deep, at, FaultKind::TooDeep)?,
+            "{asserted}"
+        );
         let (shallow, at) = deep_script(alloc, 36, 998, asserted)?;
         assert!(rt; is_refused(alloc, PRINT, &shallow, at, kind)?, "{asserted}");
     }

@@ -16,8 +16,8 @@ use mbqi_terms::Sort;
 use mbqi_values::{FaultKind, ReadError, Sequence};
 use measured_terms::{MeasuredFormula, MeasuredTerm};
 use operator_arguments::{Meanings, MeasuredMeaning, MeasuredSide};
-use smtlib_terms::{refused, refused_unless_deep};
 use smtlib_terms::word::Word;
+use smtlib_terms::{refused, refused_unless_deep};
 use std::alloc::{AllocError, Global};
 
 /// The formula that a connective or a relation makes of its arguments.
@@ -111,12 +111,8 @@ pub fn applied(alloc: Global, word: Word, args: Meanings) -> Result<MeasuredMean
             let f = formula_of(alloc, word, args)?;
             Ok(MeasuredMeaning::Formula(f))
         }
-        Word::Equal
-        | Word::Distinct
-        | Word::AtMost
-        | Word::Below
-        | Word::AtLeast
-        | Word::Above => related(alloc, word, args),
+        Word::Equal | Word::Distinct | Word::AtMost | Word::Below | Word::AtLeast | Word::Above =>
+            related(alloc, word, args),
     }
 }
 
