@@ -172,10 +172,10 @@ module _ (line : List (List ℕ)) (command : Command) (file : List ℕ) (asked :
       → CarriesOut line shelf shelf_after out out_after status
   not_fetched shelf shelf_after out out_after status comes failed past same more nothing still =
       let short : (Such : Command → List ℕ → Type 0) → Gives line shelf.files Such → status ≡ TooLong → ⊥ = λ Such gives fault.
-          let both = given_told shelf.files file (λ bytes. (length bytes ≤ file_limit) × Such command bytes) (λ bytes. file_limit < length bytes) (given shelf.files Such gives) (past fault) in
-          let few : length both.0 ≤ file_limit = both.1.0 in
-          let many : file_limit < length both.0 = both.2 in
-          omega arith in
+      let both = given_told shelf.files file (λ bytes. (length bytes ≤ file_limit) × Such command bytes) (λ bytes. file_limit < length bytes) (given shelf.files Such gives) (past fault) in
+      let few : length both.0 ≤ file_limit = both.1.0 in
+      let many : file_limit < length both.0 = both.2 in
+      omega arith in
       record {
         words = (λ none. absurd (subst ComesFromFetch none comes), λ none. cc (none, asked));
         read_fault = failed;
