@@ -107,6 +107,10 @@ abbrev pub with_assertion : Progress → Option (List ℕ) → Formula → Progr
 with_assertion p label f =
     record { names = p.names; assertions = p.assertions ++ record { label = label; formula = f } ∷ []; asks = p.asks }
 
+-- Whether an assertion with this label, or without one, may stand behind what was read.
+abbrev pub may_assert : Progress → Option (List ℕ) → Result (Unit {0}) FaultKind
+may_assert p label = unless_asked p (if is_taken label p.assertions then Err Twice else Ok tt)
+
 -- A label that no assertion has, or none, and a term that is a formula.
 abbrev pub labelled : Progress → Option (List ℕ) → Meaning → Result Progress FaultKind
 labelled p label m =
