@@ -310,10 +310,19 @@ fn want_of_memory_takes_nothing(rt: HostRuntime) -> Result<(), Fail> {
     Ok(())
 }
 
-/// How `run` ends with these words, over a shelf that has the script.
-fn ending(alloc: Global, words: &str, script: &str) -> Result<Status, AllocError> {
+/// Asserts that `run` refuses the script at this place and with this kind.
+fn assert_refused(
+    rt: &impl Abort,
+    alloc: Global,
+    words: &str,
+    script: &str,
+    at: usize,
+    kind: FaultKind,
+) -> Result<(), AllocError> {
     let call = call_run(alloc, words, script, &[], AMPLE)?;
-    Ok(call.status)
+    let refused = Status::ScriptRefused(Refusal { at, kind });
+    assert_eq!(rt; call.status, refused, "{script}");
+    Ok(())
 }
 
 /// Texts that mean no script, with the places and kinds of their first faults. The first form without a meaning is refused at its first
@@ -403,9 +412,8 @@ const FAULTY: [(&str, usize, FaultKind); 30] = [
 fn faulty_scripts_are_refused_at_their_place(rt: HostRuntime) -> Result<(), Fail> {
     let alloc = rt.alloc();
     for (script, at, kind) in FAULTY {
-        let refused = Status::ScriptRefused(Refusal { at, kind });
-        assert_eq!(rt; ending(alloc, SOLVE, script)?, refused, "{script}");
-        assert_eq!(rt; ending(alloc, PRINT, script)?, refused, "{script}");
+        assert_refused(&rt, alloc, SOLVE, script, at, kind)?;
+        assert_refused(&rt, alloc, PRINT, script, at, kind)?;
     }
     Ok(())
 }
@@ -441,18 +449,20 @@ fn push_deep(applications: usize, formulas: usize, text: &mut String) -> Result<
     text.push_str(" (forall ((i Int)) true)))")
 }
 
-/// How `run` ends with an assertion behind such definitions, and the assertion's place.
-fn ending_behind(
+/// Asserts that an assertion behind such definitions is refused, at its place.
+fn assert_refused_behind(
+    rt: &impl Abort,
     alloc: Global,
     applications: usize,
     formulas: usize,
     asserted: &str,
-) -> Result<(Status, usize), AllocError> {
+    kind: FaultKind,
+) -> Result<(), AllocError> {
     let mut text = String::new(alloc);
     push_deep(applications, formulas, &mut text)?;
     let at = text.len();
     text.push_str(asserted)?;
-    Ok((ending(alloc, PRINT, &text)?, at))
+    assert_refused(rt, alloc, PRINT, &text, at, kind)
 }
 
 /// Assertions with a fault of the node around `t` or `q`.
@@ -481,15 +491,9 @@ const DEEP: [(&str, FaultKind); 6] = [
 #[test]
 fn depth_is_judged_before_other_faults_of_a_node(rt: HostRuntime) -> Result<(), Fail> {
     let alloc = rt.alloc();
-    for (asserted, fault) in DEEP {
-        for (applications, formulas, kind) in [(37, 999, FaultKind::TooDeep), (36, 998, fault)] {
-            let (status, at) = ending_behind(alloc, applications, formulas, asserted)?;
-            assert_eq!(rt;
-                status,
-                Status::ScriptRefused(Refusal { at, kind }),
-                "{asserted}"
-            );
-        }
+    for (asserted, kind) in DEEP {
+        assert_refused_behind(&rt, alloc, 37, 999, asserted, FaultKind::TooDeep)?;
+        assert_refused_behind(&rt, alloc, 36, 998, asserted, kind)?;
     }
     Ok(())
 }
@@ -509,12 +513,8 @@ fn scripts_outside_the_profile_are_refused(rt: HostRuntime) -> Result<(), Fail> 
         "(declare-sort S 0)(declare-const c S)(assert (= c c))",
         "(declare-sort S 0)(declare-fun p (S) Bool)(assert (exists ((x S)) (p x)))",
     ];
-    let refused = Status::ScriptRefused(Refusal {
-        at: 0,
-        kind: FaultKind::Unsupported,
-    });
     for script in scripts {
-        assert_eq!(rt; ending(alloc, SOLVE, script)?, refused, "{script}");
+        assert_refused(&rt, alloc, SOLVE, script, 0, FaultKind::Unsupported)?;
     }
     Ok(())
 }
@@ -522,13 +522,9 @@ fn scripts_outside_the_profile_are_refused(rt: HostRuntime) -> Result<(), Fail> 
 #[test]
 fn reserved_words_are_no_names(rt: HostRuntime) -> Result<(), Fail> {
     let alloc = rt.alloc();
-    let refused = Status::ScriptRefused(Refusal {
-        at: 0,
-        kind: FaultKind::ReservedName,
-    });
     for word in RESERVED.split_whitespace() {
         let script = format!(in alloc; "(declare-sort {word} 0)")?;
-        assert_eq!(rt; ending(alloc, SOLVE, &script)?, refused, "{word}");
+        assert_refused(&rt, alloc, SOLVE, &script, 0, FaultKind::ReservedName)?;
     }
     Ok(())
 }
