@@ -1,8 +1,8 @@
 -- Worked rows: instances of small assertions.
-use Rattle.std.proofs.Common.{◌≡◌, ℕ, Bool, true, false, List, [], ◌∷◌, ◌⊎◌, inl, inr, map, None, Some, refl, sym, ap, subst, ◌∙◌, rules}
+use Rattle.std.proofs.Common.{◌≡◌, ℕ, true, List, [], ◌∷◌, inl, inr, map, None, refl, sym, subst, rules}
 use Rattle.std.specs.List.{AllZip}
 use Rattle.mbqi_terms.specs.Binders.{universals_at}
-use Rattle.mbqi_terms.specs.HasSort.{HasSortIn, HaveSortsIn, IsDeclared}
+use Rattle.mbqi_terms.specs.HasSort.{HasSortIn, HaveSortsIn}
 use Rattle.mbqi_terms.specs.InForm.{free_setting}
 use Rattle.mbqi_terms.specs.Substitution.{put_into, put_into_formula}
 use Rattle.mbqi_terms.specs.declared.formula.Formula as formulas
@@ -11,7 +11,6 @@ use Rattle.mbqi_terms.specs.declared.formula.Formula.TheBlock.{hidden-the_row-Fo
 use Rattle.mbqi_terms.specs.declared.formula.Formula.TheVariants as formula
 use denote.Hole.Carrier.{hidden}
 use Rattle.mbqi_terms.specs.declared.script.Assertion.{Assertion}
-use Rattle.mbqi_terms.specs.declared.script.Function.{Function}
 use Rattle.mbqi_terms.specs.declared.script.Script.{Script}
 use Rattle.mbqi_terms.specs.declared.sort.Binder.{Binder}
 use Rattle.mbqi_terms.specs.declared.sort.Plain.TheVariants as plain
