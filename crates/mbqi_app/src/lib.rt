@@ -8,6 +8,7 @@
 #![tactic(auto)]
 
 mod command;
+mod fetch;
 mod model_text;
 mod print;
 mod program;
