@@ -1,8 +1,8 @@
 use Rattle.std.specs.Prelude.{Bool, true, false, List, Result, Ok, Err}
 use Rattle.std.specs.declared.alloc.AllocError.{AllocError}
 use Rattle.mbqi_values.specs.declared.lit.Lit.{Lit}
-use Rattle.theory_search.specs.declared.search.Searched.{Searched}
-use Rattle.theory_search.specs.declared.search.Searched.TheVariants.{Found, Closed}
+use Rattle.theory_search.specs.declared.turns.Searched.{Searched}
+use Rattle.theory_search.specs.declared.turns.Searched.TheVariants.{Found, Closed}
 
 -- A fact about the trail, where one is found.
 abbrev pub IfFound : Result Searched AllocError → (List Lit → Type 0) → Type 0

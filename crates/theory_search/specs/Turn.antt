@@ -1,5 +1,5 @@
-use Rattle.theory_search.specs.declared.search.Turn.{Turn}
-use Rattle.theory_search.specs.declared.search.Turn.TheVariants.{Full, Turned, Ended}
+use Rattle.theory_search.specs.declared.turns.Turn.{Turn}
+use Rattle.theory_search.specs.declared.turns.Turn.TheVariants.{Full, Turned, Ended}
 
 -- A fact where the trail is full.
 abbrev pub OnFull : Turn → Type 0 → Type 0

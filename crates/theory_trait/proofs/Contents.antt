@@ -4,9 +4,10 @@ use Rattle.std.proofs.lemmas.Bool.{and_parts, and_from, eqb-false, ne_eqb, not-t
 use Rattle.std.proofs.lemmas.List.Folds.{list_all-append}
 use Rattle.mbqi_values.specs.Clauses.{lit_true}
 use Rattle.mbqi_values.specs.declared.lit.Lit.{Lit}
+use Rattle.mbqi_values.specs.declared.value.Value.{Value}
 use Rattle.theory_trait.specs.Content.{IsFree, AtomsDiffer}
 use Rattle.theory_trait.specs.Free.{IsFreelyLawful}
-use Rattle.theory_trait.specs.Valuation.{lits_true, HasValuation}
+use Rattle.theory_trait.specs.Valuation.{lits_true, HasValuation, Satisfies}
 
 -- Contents of which no two literals have one atom.
 
@@ -62,5 +63,8 @@ lits_true-truth_by (lit ∷ lits) differ =
     (lits_true-other (truth_by (lit ∷ lits)) (truth_by lits) lits lit.atom (truth_by-other lit lits) differ.0 ∙ lits_true-truth_by lits differ.1)
 
 -- Where no two literals have one atom, some truths make them true.
+pub settled : (atoms : ℕ) (lits : List Lit) (values : List Value) → values ≡ [] → AtomsDiffer lits → Satisfies (IsFreelyLawful atoms) lits values
+settled atoms lits values none differ = (truth_by lits, none, lits_true-truth_by lits differ)
+
 pub freely_true : (atoms : ℕ) (lits : List Lit) → AtomsDiffer lits → HasValuation (IsFreelyLawful atoms) lits
-freely_true atoms lits differ = ([], (truth_by lits, refl, lits_true-truth_by lits differ))
+freely_true atoms lits differ = ([], settled atoms lits [] refl differ)

@@ -106,6 +106,7 @@ impl Theory for FreeTheory {
     }
 
     fn settle(&self, alloc: Global) -> Result<Values, AllocError> {
+        let _content = &self.content;
         Ok(Values::new(alloc))
     }
 }

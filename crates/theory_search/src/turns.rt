@@ -1,4 +1,4 @@
-//! The search.
+//! The search, turn by turn.
 
 ghost use Rattle.std.specs.Prelude.{◌≡◌, ◌<◌, ◌≤◌, ℕ, [], ◌∷◌, All, IfOk, IfSome};
 ghost use Rattle.std.specs.Bool.{OnTrue, OnFalse};
@@ -102,7 +102,7 @@ fn atom_count(clauses: &[Lits]) -> Option<usize>
 }
 
 // One turn: the trail grows or, after a conflict, a choice is turned.
-fn turn<T: Theory>(
+fn take_turn<T: Theory>(
     alloc: Global,
     clauses: &[Lits],
     theory: &mut T,
@@ -151,7 +151,7 @@ fn run<T: Theory>(
     ensures none { IfOk result (λ full. OnFalse full (HasNoModel (T.lawful (T.problem theory.old)) clauses.now)) }
 {
     loop {
-        match turn(alloc, clauses, theory, trail)? {
+        match take_turn(alloc, clauses, theory, trail)? {
             Turn::Full => return Ok(true),
             Turn::Turned => {}
             Turn::Ended => return Ok(false),

@@ -1,0 +1,11 @@
+pub mod Choices
+pub mod FalseClauses
+pub mod FreshSteps
+pub mod Fullness
+pub mod Ranks
+pub mod Refusals
+pub mod Resolution
+pub mod SoundSteps
+pub mod Standings
+pub mod TruthsAt
+pub mod UnitClauses
