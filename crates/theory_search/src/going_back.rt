@@ -127,7 +127,7 @@ pub(crate) fn go_back<T: Theory>(
     ensures none { IfOk result (λ turned. OnFalse turned (HasNoModel (T.lawful (T.problem theory.old)) clauses.now)) }
 {
     let mut conflict = conflict;
-    while trail.len() > 0 {
+    'back: while trail.len() > 0 {
         match undo_last(alloc, clauses, theory, trail, conflict)? {
             Some(next) => conflict = next,
             None => return Ok(true),

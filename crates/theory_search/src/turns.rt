@@ -1,6 +1,6 @@
 //! The search, turn by turn.
 
-ghost use Rattle.std.specs.Prelude.{◌≡◌, ◌<◌, ◌≤◌, ℕ, [], ◌∷◌, All, IfOk, IfSome};
+ghost use Rattle.std.specs.Prelude.{◌≡◌, ◌<◌, ◌≤◌, ◌^◌, ℕ, [], ◌∷◌, All, IfOk, IfSome, IfNone};
 ghost use Rattle.std.specs.Bool.{OnTrue, OnFalse};
 ghost use Rattle.mbqi_values.specs.Clauses.{AreBelow};
 ghost use Rattle.theory_trait.specs.Content.{AtomsDiffer};
@@ -76,13 +76,14 @@ pub fn search<T: Theory>(
     searched
 }
 
-// One more than the greatest atom of the clause, and at least the count that is handed in; `None` where that is no usize.
-fn counted(clause: &[Lit], count: usize) -> Option<usize>
-    ensures above { IfSome result (λ most. count ≤ most) }
-    ensures below { IfSome result (λ most. All (λ lit. lit.atom < most) clause.now) }
-    ensures least { IfSome result (λ most. (limit : ℕ) → count ≤ limit → All (λ lit. lit.atom < limit) clause.now → most ≤ limit) }
+// One more than the greatest atom of the clause, and at least the number that is handed in; `None` where that is no usize.
+fn counted(clause: &[Lit], start: usize) -> Option<usize>
+    ensures above { IfSome result (λ count. start ≤ count) }
+    ensures below { IfSome result (λ count. All (λ lit. lit.atom < count) clause.now) }
+    ensures least { IfSome result (λ count. (limit : ℕ) → start ≤ limit → All (λ lit. lit.atom < limit) clause.now → count ≤ limit) }
+    ensures none { IfNone result ((limit : ℕ) → All (λ lit. lit.atom < limit) clause.now → 2 ^ 64 ≤ limit) }
 {
-    let mut count = count;
+    let mut count = start;
     for lit in clause {
         count = count.max(lit.atom.checked_add(1)?);
     }
@@ -93,6 +94,7 @@ fn counted(clause: &[Lit], count: usize) -> Option<usize>
 fn atom_count(clauses: &[Lits]) -> Option<usize>
     ensures below { IfSome result (λ count. AreBelow count clauses.now) }
     ensures least { IfSome result (λ count. (limit : ℕ) → AreBelow limit clauses.now → count ≤ limit) }
+    ensures none { IfNone result ((limit : ℕ) → AreBelow limit clauses.now → 2 ^ 64 ≤ limit) }
 {
     let mut count = 0;
     for clause in clauses {
@@ -150,7 +152,7 @@ fn run<T: Theory>(
     ensures stands { IfOk result (λ full. OnTrue full (Stands T.Theory theory.new trail.new)) }
     ensures none { IfOk result (λ full. OnFalse full (HasNoModel (T.lawful (T.problem theory.old)) clauses.now)) }
 {
-    loop {
+    'turns: loop {
         match take_turn(alloc, clauses, theory, trail)? {
             Turn::Full => return Ok(true),
             Turn::Turned => {}
@@ -197,7 +199,7 @@ fn close<T: Theory>(theory: &mut T, trail: &mut Trail)
     ensures content { T.content theory.new ≡ [] }
     ensures frames { T.frames theory.new ≡ [] }
 {
-    while let Some(step) = trail.take_last() {
+    'steps: while let Some(step) = trail.take_last() {
         if step.reason.is_chosen() {
             theory.pop();
         }

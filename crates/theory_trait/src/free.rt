@@ -1,6 +1,7 @@
 //! The plainest theory. It shows that the contract of a theory can be met, and serves where no theory is needed.
 
 ghost use Rattle.std.specs.Prelude.{◌≡◌, [], None};
+ghost use Rattle.theory_trait.specs.Content.{AtomsDiffer};
 ghost use Rattle.theory_trait.specs.Free.{IsFreelyLawful};
 ghost use Rattle.theory_trait.specs.Valuation.{HasValuation};
 
@@ -53,6 +54,21 @@ impl FreeTheory {
             spare: 0,
             spare_frames: 0,
         }
+    }
+
+    /// The literals that were assumed, in their order. No two have one atom.
+    pub fn content(&self) -> &[Lit]
+        ensures content { result.now ≡ self.now.content }
+        ensures differ { AtomsDiffer self.now.content }
+    {
+        self.content.as_slice()
+    }
+
+    /// The lengths of the content at which the open frames were opened, in their order.
+    pub fn frames(&self) -> &[usize]
+        ensures { result.now ≡ self.now.frames }
+    {
+        self.frames.as_slice()
     }
 }
 
