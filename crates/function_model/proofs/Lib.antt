@@ -1,6 +1,11 @@
+pub mod KnotSearch
 pub mod Lengths
+pub mod Narrowing
 pub mod PlaceEnds
 pub mod PlaceRanks
 pub mod RowLookups
 pub mod RowOrder
+pub mod RowSearch
 pub mod ShownParts
+pub mod Soundness
+pub mod ValueOrder

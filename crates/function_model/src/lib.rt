@@ -5,11 +5,13 @@
 
 #![tactic(auto)]
 
+mod by_halves;
 mod look_up;
 pub mod model;
 mod rising;
 mod shown;
 
+pub use by_halves::projected_by_halves;
 pub use look_up::projected;
 pub use model::{FunctionModel, Row, Rows, Table, TableName, Tables, ValueLists};
 pub use rising::{rising_rows, rows_fit};
