@@ -4,6 +4,7 @@ pub mod Narrowing
 pub mod PlaceEnds
 pub mod PlaceRanks
 pub mod RowLookups
+pub mod Rows
 pub mod RowOrder
 pub mod RowSearch
 pub mod ShownParts

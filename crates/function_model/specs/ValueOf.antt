@@ -7,7 +7,7 @@ use Rattle.mbqi_values.specs.declared.value.Value.{Value}
 use Rattle.mbqi_values.specs.declared.value.Value.TheVariants.{Num, Elem, Truth}
 use Rattle.mbqi_terms.specs.declared.term.ArrayTerm.{ArrayTerm, out-ArrayTerm}
 use Rattle.mbqi_terms.specs.declared.term.ArrayTerm.TheOpen.{ArrayTerm-F, Symbol-F, Term-F}
-use Rattle.mbqi_terms.specs.declared.term.ArrayTerm.TheFolds.{fold-ArrayTerm, fold-Term}
+use Rattle.mbqi_terms.specs.declared.term.ArrayTerm.TheFolds.{fold-ArrayTerm, fold-Term, map-ArrayTerm, map-Symbol, map-Term}
 use Rattle.mbqi_terms.specs.declared.term.ArrayTerm.TheViews.{roll-ArrayTerm, roll-Symbol, roll-Term}
 use Rattle.mbqi_terms.specs.declared.term.MapOp.{MapOp}
 use Rattle.mbqi_terms.specs.declared.term.MapOp.TheVariants as op
@@ -39,9 +39,6 @@ MeantSymbol = Meant Symbol (List Value → Value)
 
 abbrev pub MeantTerm : Type 0
 MeantTerm = Meant Term Value
-
-abbrev pub trees_in : {X : Type 0} → {Y : Type 0} → List (Meant X Y) → List X
-trees_in {X} {Y} parts = map (λ (part : Meant X Y). part.tree) parts
 
 abbrev pub meanings_in : {X : Type 0} → {Y : Type 0} → List (Meant X Y) → List Y
 meanings_in {X} {Y} parts = map (λ (part : Meant X Y). part.means) parts
@@ -107,11 +104,15 @@ is_compound a = is_compound_layer (out-ArrayTerm a)
 abbrev pub reads_of : FunctionModel → Bool → ArrayTerm → ArrayMeaning → Value → Value
 reads_of m is_compound a meaning i = if is_full m && is_compound then given_by (is_read a) m (i ∷ []) else meaning.read i
 
+-- The tree of a level, of the trees of its parts.
 abbrev pub array_tree : ArrayTerm-F MeantArray MeantSymbol MeantTerm → ArrayTerm
-array_tree (ArrayTerm-F.Name f) = roll-ArrayTerm (ArrayTerm-F.Name f)
-array_tree (ArrayTerm-F.Store a i v) = roll-ArrayTerm (ArrayTerm-F.Store a.tree i.tree v.tree)
-array_tree (ArrayTerm-F.Const sort v) = roll-ArrayTerm (ArrayTerm-F.Const sort v.tree)
-array_tree (ArrayTerm-F.Map f parts) = roll-ArrayTerm (ArrayTerm-F.Map f (trees_in parts))
+array_tree layer = roll-ArrayTerm (map-ArrayTerm MeantArray MeantSymbol MeantTerm ArrayTerm Symbol Term (λ a. a.tree) (λ f. f.tree) (λ t. t.tree) layer)
+
+abbrev pub symbol_tree : Symbol-F MeantArray MeantSymbol MeantTerm → Symbol
+symbol_tree layer = roll-Symbol (map-Symbol MeantArray MeantSymbol MeantTerm ArrayTerm Symbol Term (λ a. a.tree) (λ f. f.tree) (λ t. t.tree) layer)
+
+abbrev pub term_tree : Term-F MeantArray MeantSymbol MeantTerm → Term
+term_tree layer = roll-Term (map-Term MeantArray MeantSymbol MeantTerm ArrayTerm Symbol Term (λ a. a.tree) (λ f. f.tree) (λ t. t.tree) layer)
 
 abbrev pub array_meaning : FunctionModel → ArrayTerm-F MeantArray MeantSymbol MeantTerm → MeantArray
 array_meaning m layer = record {
@@ -123,13 +124,6 @@ array_meaning m layer = record {
 }
 
 -- A symbol is its table. The index at which two arrays differ has one in full models alone, and is 0 in a shown one.
-abbrev pub symbol_tree : Symbol-F MeantArray MeantSymbol MeantTerm → Symbol
-symbol_tree (Symbol-F.Declared f) = roll-Symbol (Symbol-F.Declared f)
-symbol_tree (Symbol-F.Skolem assertion place) = roll-Symbol (Symbol-F.Skolem assertion place)
-symbol_tree (Symbol-F.Seed sort) = roll-Symbol (Symbol-F.Seed sort)
-symbol_tree Symbol-F.Far = roll-Symbol Symbol-F.Far
-symbol_tree (Symbol-F.Diff a b) = roll-Symbol (Symbol-F.Diff a.tree b.tree)
-
 abbrev pub symbol_value : FunctionModel → Symbol-F MeantArray MeantSymbol MeantTerm → List Value → Value
 symbol_value m (Symbol-F.Declared f) args = given_by (is_declared f) m args
 symbol_value m (Symbol-F.Skolem assertion place) args = given_by (is_skolem assertion place) m args
@@ -139,15 +133,6 @@ symbol_value m (Symbol-F.Diff a b) args = if is_full m then given_by (is_differe
 
 abbrev pub symbol_meaning : FunctionModel → Symbol-F MeantArray MeantSymbol MeantTerm → MeantSymbol
 symbol_meaning m layer = record { tree = symbol_tree layer; means = symbol_value m layer }
-
-abbrev pub term_tree : Term-F MeantArray MeantSymbol MeantTerm → Term
-term_tree (Term-F.Num n) = roll-Term (Term-F.Num n)
-term_tree (Term-F.Plus t n) = roll-Term (Term-F.Plus t.tree n)
-term_tree (Term-F.Var place) = roll-Term (Term-F.Var place)
-term_tree (Term-F.Truth t) = roll-Term (Term-F.Truth t)
-term_tree (Term-F.Apply symbol args) = roll-Term (Term-F.Apply symbol.tree (trees_in args))
-term_tree (Term-F.Read a i) = roll-Term (Term-F.Read a.tree i.tree)
-term_tree (Term-F.Default a) = roll-Term (Term-F.Default a.tree)
 
 -- A default has its own table in a full model, and is the read at the top in a shown one.
 abbrev pub term_value : FunctionModel → Point → Term-F MeantArray MeantSymbol MeantTerm → Value
