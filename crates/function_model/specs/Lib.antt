@@ -8,4 +8,5 @@ pub mod Projection
 pub mod Rising
 pub mod Shown
 pub mod Sound
+pub mod Tabled
 pub mod ValueOf

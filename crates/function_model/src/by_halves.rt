@@ -1,11 +1,11 @@
 //! Looking a value up in a table by binary search.
 
-ghost use Rattle.std.specs.Prelude.{◌≡◌, ◌≤◌, ◌<◌, true, false, List, [], ◌∷◌, ◌++◌, length, filter};
+ghost use Rattle.std.specs.Prelude.{◌≡◌, ◌≤◌, ◌<◌, true, false, List, [], ◌∷◌, ◌++◌, length, filter, slice_get};
 ghost use Rattle.std.specs.List.Sorted.{IsPartitionPoint};
 ghost use Rattle.mbqi_values.specs.Value.{is_same};
 ghost use Rattle.mbqi_values.specs.declared.value.Value.{Value as AnyValue};
 ghost use Rattle.function_model.specs.Lookup.{looked_up_in, projected};
-ghost use Rattle.function_model.specs.Narrowing.{NeverFallAt, first_value, greatest_in, is_below, is_up_to, itself_or_first, passes_at, rows_for};
+ghost use Rattle.function_model.specs.Narrowing.{NeverFallAt, first_value, greatest_in, is_below, is_up_to, itself_or_first, passes, passes_at, rows_for};
 ghost use Rattle.function_model.specs.Sound.{IsSoundTable, KnotsRise};
 
 use crate::model::{Row, Table};
@@ -122,8 +122,18 @@ fn itself_or_first(knots: &[Value], value: Value) -> Value
     ensures { result ≡ itself_or_first knots.now value }
 {
     let at = knots.partition_point(|knot| knot.rank(&value).is_lt());
+    if is_there(knots, at, value) {
+        value
+    } else {
+        knots[0]
+    }
+}
+
+fn is_there(knots: &[Value], at: usize, value: Value) -> bool
+    ensures { result ≡ passes (is_same value) (slice_get knots.now at) }
+{
     match knots.get(at) {
-        Some(knot) if knot.rank(&value).is_eq() => value,
-        _ => knots[0],
+        Some(knot) => value.rank(knot).is_eq(),
+        None => false,
     }
 }

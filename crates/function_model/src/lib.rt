@@ -10,12 +10,14 @@ mod look_up;
 pub mod model;
 mod rising;
 mod shown;
+mod sound;
 
 pub use by_halves::projected_by_halves;
 pub use look_up::projected;
 pub use model::{FunctionModel, Row, Rows, Table, TableName, Tables, ValueLists};
 pub use rising::{rising_rows, rows_fit};
 pub use shown::{shown_fits, shown_has_declared};
+pub use sound::{fitting_is_sound, full_is_sound};
 
 #[cfg(test)]
 mod tests;
