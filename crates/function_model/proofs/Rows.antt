@@ -1,22 +1,18 @@
 -- Worked rows: what the definitions give in small models.
-use Rattle.std.proofs.Common.{◌≡◌, ◌<◌, ℕ, ℤ, pos, negsuc, Bool, true, false, List, [], ◌∷◌, ◌⊎◌, inl, inr, None, Some, refl, sym, ap, subst, ◌∙◌, rules, arith}
+use Rattle.std.proofs.Common.{◌≡◌, ◌<◌, ℕ, ℤ, pos, negsuc, true, false, List, [], ◌∷◌, inl, inr, refl, sym, ap, subst, ◌∙◌, rules, arith}
 use Rattle.mbqi_values.specs.Value.{is_same}
 use Rattle.mbqi_values.specs.declared.value.Value.{Value}
 use Rattle.mbqi_values.specs.declared.value.Value.TheVariants as value
-use Rattle.mbqi_terms.specs.declared.formula.Formula as formulas
 use Rattle.mbqi_terms.specs.declared.formula.Formula.{Formula}
 use Rattle.mbqi_terms.specs.declared.formula.Formula.TheBlock.{hidden-the_row-Formula-0, hidden-the_row-Formula-1}
 use Rattle.mbqi_terms.specs.declared.formula.Formula.TheVariants as formula
 use denote.Hole.Carrier.{hidden}
-use Rattle.mbqi_terms.specs.declared.script.Function.{Function}
 use Rattle.mbqi_terms.specs.declared.sort.Binder.{Binder}
 use Rattle.mbqi_terms.specs.declared.sort.Plain.TheVariants as plain
-use Rattle.mbqi_terms.specs.declared.sort.Sort.{Sort}
 use Rattle.mbqi_terms.specs.declared.sort.Sort.TheVariants as sort
 use Rattle.mbqi_terms.specs.declared.term.ArrayTerm as arrays
 use Rattle.mbqi_terms.specs.declared.term.ArrayTerm.{ArrayTerm}
 use Rattle.mbqi_terms.specs.declared.term.ArrayTerm.TheVariants as array
-use Rattle.mbqi_terms.specs.declared.term.MapOp.TheVariants as op
 use Rattle.mbqi_terms.specs.declared.term.Symbol as symbols
 use Rattle.mbqi_terms.specs.declared.term.Symbol.{Symbol}
 use Rattle.mbqi_terms.specs.declared.term.Symbol.TheVariants as symbol
@@ -111,11 +107,10 @@ holds_at_six = inr (inl p_of_x_with_its_knot)
 
 fails_at_six : HoldsAt [] two_knots false five_or_p at_six
 unfolding HoldsAt hidden-the_row-Formula-0 hidden hidden-the_row-Formula-1
-fails_at_six =
-    (
-      ap (λ v. is_same v (value_of two_knots (number (pos 5)) at_six)) (x_is_six two_knots) ∙ ap (is_same (value.Num (pos 6))) (five two_knots at_six),
-      (p_of_x_without_it, tt),
-    )
+fails_at_six = (
+  ap (λ v. is_same v (value_of two_knots (number (pos 5)) at_six)) (x_is_six two_knots) ∙ ap (is_same (value.Num (pos 6))) (five two_knots at_six),
+  (p_of_x_without_it, tt),
+)
 
 abbrev integer : Binder
 integer = record { place = 0; sort = sort.Int }

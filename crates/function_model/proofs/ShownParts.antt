@@ -1,9 +1,8 @@
 -- The shown part of a model: its tables are those of shown names, and it isn't full.
-use Rattle.std.proofs.Common.{◌≡◌, ℕ, ◌+◌, Bool, true, false, List, [], ◌∷◌, ◌++◌, map, cond, refl, sym, ap, subst, ◌∙◌, ◌⊎◌, inl, inr, ⊎_elim}
+use Rattle.std.proofs.Common.{◌≡◌, ℕ, ◌+◌, Bool, true, false, List, [], ◌∷◌, ◌++◌, append_assoc, map, cond, refl, sym, ap, subst, ◌∙◌, ◌⊎◌, inl, inr, ⊎_elim}
 use Rattle.std.specs.Prelude.{Option, filter, None, Some}
 use Rattle.std.specs.List.{AllByRecursion, AllZip, find}
 use Rattle.std.specs.Option.{is_some}
-use Rattle.mbqi_terms.specs.declared.arrays.SkolemSort.{SkolemSort}
 use Rattle.mbqi_terms.specs.declared.script.Function.{Function}
 use Rattle.mbqi_terms.specs.declared.script.Script.{Script}
 use Rattle.mbqi_terms.specs.declared.store.lists.Lists.{Lists}
@@ -162,3 +161,41 @@ far_hidden (table ∷ tables) =
 
 pub shown_is_not_full : (model : FunctionModel) → is_full (shown_of model) ≡ false
 shown_is_not_full model = ap is_some (far_hidden model.tables)
+
+-- a full model has the table of the far integer, behind those of other names
+named_far : (table : Table) (tables : List Table) → is_far table.name ≡ true → is_some (far_in (table ∷ tables)) ≡ true
+named_far table tables e = ap (λ b. is_some (cond b (Some table) (far_in tables))) e
+
+or_later : (b : Bool) (table : Table) (tables : List Table) → is_some (far_in tables) ≡ true → is_some (cond b (Some table) (far_in tables)) ≡ true
+or_later true table tables there = refl
+or_later false table tables there = there
+
+has_far : (sizes : List ℕ) (front back : List Signature) (tables : List Table)
+    → AllZip (FitsSignature sizes) (front ++ (far_signature ∷ back)) tables → is_some (far_in tables) ≡ true
+has_far sizes [] back [] fit = absurd fit
+has_far sizes [] back (table ∷ tables) fit = named_far table tables (ap is_far fit.0.name)
+has_far sizes (s ∷ front) back [] fit = absurd fit
+has_far sizes (s ∷ front) back (table ∷ tables) fit = or_later (is_far table.name) table tables (has_far sizes front back tables fit.1)
+
+pub full_is_full : (script : Script) (model : FunctionModel) → FitsFull script model → is_full model ≡ true
+full_is_full script model fit =
+    let shown = shown_signatures script in
+    let seeds = seed_signatures 0 script.sorts in
+    let behind = array_signatures (lists_of script) in
+    has_far model.sizes (shown ++ seeds) behind model.tables
+    (subst (λ (signatures : List Signature). AllZip (FitsSignature model.sizes) signatures model.tables)
+    (sym (append_assoc shown seeds (far_signature ∷ behind))) fit.tables)
+
+-- a shown one that fits has none
+all_shown : (sizes : List ℕ) (shown : List Signature) (tables : List Table) → AreShown true shown → AllZip (FitsSignature sizes) shown tables → shown_in tables ≡ tables
+all_shown sizes [] [] all fit = refl
+all_shown sizes [] (table ∷ tables) all fit = absurd fit
+all_shown sizes (s ∷ shown) [] all fit = absurd fit
+all_shown sizes (s ∷ shown) (table ∷ tables) all fit =
+    ap (λ b. cond b (table ∷ shown_in tables) (shown_in tables)) (ap is_shown fit.0.name ∙ all.0)
+    ∙ ap (λ rest. table ∷ rest) (all_shown sizes shown tables all.1 fit.1)
+
+pub fitting_is_not_full : (script : Script) (model : FunctionModel) → Fits script model → is_full model ≡ false
+fitting_is_not_full script model fit =
+    ap (λ (tables : List Table). is_some (far_in tables)) (sym (all_shown model.sizes (shown_signatures script) model.tables (names_shown script) fit.tables))
+    ∙ shown_is_not_full model

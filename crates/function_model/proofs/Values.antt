@@ -128,23 +128,23 @@ module _ (m : FunctionModel) (p : Point) where
   unfolding value_of
   value_truth b = search (rules, terms.the_lemmas)
 
-  value_symbol : (f : Symbol) (ts : List Term) → value_of m (term.Apply f ts) p ≡ (meant_symbol f).means (map (λ t. value_of m t p) ts)
+  pub value_symbol : (f : Symbol) (ts : List Term) → value_of m (term.Apply f ts) p ≡ (meant_symbol f).means (map (λ t. value_of m t p) ts)
   unfolding value_of
   value_symbol f ts = ap (λ x. x.means) (meant_apply f ts) ∙ ap (meant_symbol f).means (map-map (λ (x : MeantTerm). x.means) (meant_term m p) ts)
 
-  means_declared : (f : ℕ) (vs : List Value) → (meant_symbol (symbol.Declared f)).means vs ≡ given_by (is_declared f) m vs
+  pub means_declared : (f : ℕ) (vs : List Value) → (meant_symbol (symbol.Declared f)).means vs ≡ given_by (is_declared f) m vs
   means_declared f vs = search (rules, symbols.the_lemmas)
 
-  means_skolem : (assertion place : ℕ) (vs : List Value) → (meant_symbol (symbol.Skolem assertion place)).means vs ≡ given_by (is_skolem assertion place) m vs
+  pub means_skolem : (assertion place : ℕ) (vs : List Value) → (meant_symbol (symbol.Skolem assertion place)).means vs ≡ given_by (is_skolem assertion place) m vs
   means_skolem assertion place vs = search (rules, symbols.the_lemmas)
 
-  means_seed : (s : ℕ) (vs : List Value) → (meant_symbol (symbol.Seed s)).means vs ≡ given_by (is_seed s) m vs
+  pub means_seed : (s : ℕ) (vs : List Value) → (meant_symbol (symbol.Seed s)).means vs ≡ given_by (is_seed s) m vs
   means_seed s vs = search (rules, symbols.the_lemmas)
 
-  means_far : (vs : List Value) → (meant_symbol symbol.Far).means vs ≡ given_by is_far m vs
+  pub means_far : (vs : List Value) → (meant_symbol symbol.Far).means vs ≡ given_by is_far m vs
   means_far vs = search (rules, symbols.the_lemmas)
 
-  means_difference : (a b : ArrayTerm) (vs : List Value)
+  pub means_difference : (a b : ArrayTerm) (vs : List Value)
       → (meant_symbol (symbol.Diff a b)).means vs ≡ (if is_full m then given_by (is_difference a b) m vs else value.Num (pos 0))
   means_difference a b vs =
       ap (λ x. x.means vs) (meant_difference a b)
@@ -224,7 +224,7 @@ module _ (m : FunctionModel) (p : Point) where
   read_map f parts j =
       read_compound (array.Map f parts) (ArrayTerm-F.Map f (map (meant_array m p) parts)) (meant_map f parts) refl j
       ∙ ap (λ vs. if is_full m then given_by (is_read (array.Map f parts)) m (j ∷ []) else applied m f vs)
-        (map-map (λ (x : MeantArray). x.means.read j) (meant_array m p) parts)
+      (map-map (λ (x : MeantArray). x.means.read j) (meant_array m p) parts)
 
   -- and their tops
   pub top_name : (f : ℕ) → (array_of m (array.Name f) p).top ≡ last_knot (table_where (is_declared f) m)

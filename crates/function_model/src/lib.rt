@@ -6,6 +6,7 @@
 #![tactic(auto)]
 
 mod by_halves;
+mod laws;
 mod look_up;
 pub mod model;
 mod rising;
@@ -13,10 +14,11 @@ mod shown;
 mod sound;
 
 pub use by_halves::projected_by_halves;
+pub use laws::{full_by_far, number_goes_to_greatest, one_truth, shown_keeps_truth};
 pub use look_up::projected;
 pub use model::{FunctionModel, Row, Rows, Table, TableName, Tables, ValueLists};
 pub use rising::{rising_rows, rows_fit};
-pub use shown::{shown_fits, shown_has_declared};
+pub use shown::{shown_fits, shown_has_declared, shown_has_skolem};
 pub use sound::{fitting_is_sound, full_is_sound};
 
 #[cfg(test)]
