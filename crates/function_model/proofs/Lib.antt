@@ -1,7 +1,9 @@
+pub mod FormulaTruths
 pub mod HoldsLaws
 pub mod Induction
 pub mod KnotSearch
 pub mod Lengths
+pub mod MatrixTruths
 pub mod Narrowing
 pub mod OneTruth
 pub mod PlaceEnds
@@ -11,8 +13,12 @@ pub mod RowLookups
 pub mod RowOrder
 pub mod RowSearch
 pub mod Rows
+pub mod SameTrees
 pub mod ShownParts
 pub mod ShownTruth
+pub mod SmallValues
 pub mod Soundness
+pub mod SymbolTables
+pub mod TermParts
 pub mod ValueOrder
 pub mod Values

@@ -1,12 +1,12 @@
 -- Terms and formulas that have their values from tables alone (this project's own): their array terms are names, no default is named, no
 -- arrays are compared, and each number that is added to another term is absolutely below 2 ^ 124.
-use Rattle.std.specs.Prelude.{◌≡◌, false, [], All}
+use Rattle.std.specs.Prelude.{◌≡◌, false}
 use Rattle.mbqi_values.specs.Sum.{IsBelow}
-use Rattle.mbqi_terms.specs.declared.formula.Formula.{Formula}
+use Rattle.mbqi_terms.specs.declared.formula.Formula.{Formula, Row_of-Formula, end_of-Formula, more_of-Formula}
+use Rattle.mbqi_terms.specs.declared.formula.Formula.TheVariants.{Atom, Equal, AtMost, SameArray, Not', All', Any', Iff', Choose', Forall', Exists'}
+use Rattle.mbqi_terms.specs.declared.formula.Formula.TheVariants as formula
 use Rattle.mbqi_terms.specs.declared.term.ArrayTerm.TheOpen.{Term-F}
 use Rattle.mbqi_terms.specs.declared.term.Term.{Term, out-Term}
-use Rattle.mbqi_terms.specs.Binders.{IsQuantifierFree}
-use Rattle.mbqi_terms.specs.Parts.{pairs_in, terms_in}
 use Rattle.mbqi_terms.specs.Tree.{IsBase, IsPart, Layer}
 use Rattle.function_model.specs.ValueOf.{is_compound}
 
@@ -25,7 +25,23 @@ abbrev pub IsEvaluable : Term → Type 0
 IsEvaluable t = (part : Term) → IsPart part t → IsEvaluableLayer (out-Term part)
 
 -- A formula over such terms, without quantifiers and equalities of arrays.
-pub record IsEvaluableFormula (f : Formula) : Type 0 where
-  pub quantifier_free : IsQuantifierFree f
-  pub no_pairs : pairs_in f ≡ []
-  pub terms : All IsEvaluable (terms_in f)
+unfoldable mutual
+  pub IsEvaluableFormula : Formula → Type 0
+  IsEvaluableFormula (formula.Truth b) = Unit {0}
+  IsEvaluableFormula (Atom t) = IsEvaluable t
+  IsEvaluableFormula (Equal s t) = IsEvaluable s × IsEvaluable t
+  IsEvaluableFormula (AtMost s t) = IsEvaluable s × IsEvaluable t
+  IsEvaluableFormula (SameArray a b) = ⊥
+  IsEvaluableFormula (Not' u (more_of-Formula f end_of-Formula)) = IsEvaluableFormula f
+  IsEvaluableFormula (All' n fs) = AreEvaluableFormulas fs
+  IsEvaluableFormula (Any' n fs) = AreEvaluableFormulas fs
+  IsEvaluableFormula (Iff' u (more_of-Formula f end_of-Formula) v (more_of-Formula g end_of-Formula)) = IsEvaluableFormula f × IsEvaluableFormula g
+  IsEvaluableFormula (Choose' u (more_of-Formula c end_of-Formula) v (more_of-Formula f end_of-Formula) w (more_of-Formula g end_of-Formula)) =
+      IsEvaluableFormula c × IsEvaluableFormula f × IsEvaluableFormula g
+  IsEvaluableFormula (Forall' bs u f) = ⊥
+  IsEvaluableFormula (Exists' bs u f) = ⊥
+
+  -- Each of the formulas is.
+  pub AreEvaluableFormulas : {n : _} → Row_of-Formula n → Type 0
+  AreEvaluableFormulas end_of-Formula = Unit {0}
+  AreEvaluableFormulas (more_of-Formula f fs) = IsEvaluableFormula f × AreEvaluableFormulas fs

@@ -6,12 +6,14 @@
 #![tactic(auto)]
 
 mod by_halves;
+mod eval;
 mod laws;
 mod look_up;
 pub mod model;
 mod rising;
 mod shown;
 mod sound;
+mod tabled;
 
 pub use by_halves::projected_by_halves;
 pub use laws::{full_by_far, number_goes_to_greatest, one_truth, shown_keeps_truth};
