@@ -30,12 +30,12 @@ module _ (test : Value → Bool) (down : IsDownward test) where
 -- the last of those up to the value, or the one before them
 after : (v : Value) (ks : List Value) (best : Value) (j : ℕ) (d : Value) → j ≤ length ks
     → AllWithin (λ k. is_up_to v k ≡ true) ks 0 j → AllWithin (λ k. is_up_to v k ≡ false) ks j (length ks) → greatest_up_to best ks v ≡ get_or (best ∷ ks) j d
-after v [] best zero d h yes no = refl
-after v [] best (suc j) d h yes no = absurd (omega arith)
-after v (k ∷ ks) best zero d h yes no = ap (λ b. if b then greatest_up_to k ks v else best) (no 0 d (omega arith) (omega arith))
-after v (k ∷ ks) best (suc j) d h yes no =
-    ap (λ b. if b then greatest_up_to k ks v else best) (yes 0 d (omega arith) (omega arith))
-    ∙ after v ks k j d (omega arith) (λ i e low high. yes (suc i) e (omega arith) (omega arith)) (λ i e low high. no (suc i) e (omega arith) (omega arith))
+after v [] best zero d h passed failed = refl
+after v [] best (suc j) d h passed failed = absurd (omega arith)
+after v (k ∷ ks) best zero d h passed failed = ap (λ b. if b then greatest_up_to k ks v else best) (failed 0 d (omega arith) (omega arith))
+after v (k ∷ ks) best (suc j) d h passed failed =
+    ap (λ b. if b then greatest_up_to k ks v else best) (passed 0 d (omega arith) (omega arith))
+    ∙ after v ks k j d (omega arith) (λ i e low high. passed (suc i) e (omega arith) (omega arith)) (λ i e low high. failed (suc i) e (omega arith) (omega arith))
 
 pub greatest_found : (v : Value) (ks : List Value) (i : ℕ) (d : Value) → KnotsRise ks → i ≤ length ks
     → IsPartitionPoint (λ k. is_up_to v k ≡ true) (λ k. is_up_to v k ≡ false) ks i → greatest_in ks v ≡ get_or ks (i - 1) d

@@ -18,6 +18,7 @@ pub mod ShownParts
 pub mod ShownTruth
 pub mod SmallValues
 pub mod Soundness
+pub mod StoreValues
 pub mod SymbolTables
 pub mod TermParts
 pub mod ValueOrder

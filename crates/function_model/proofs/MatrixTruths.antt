@@ -91,8 +91,8 @@ module _ (m : FunctionModel) (p : Point) (g : Setting) (scope : List Binder) (so
   term_truth t s (HasSortIn.seed r hidden below) same is = cc
   term_truth t s (HasSortIn.far hidden) same is = cc
   term_truth t s (HasSortIn.differing a b i e hidden index left right) same is = absurd (subst (IsIndexSort g.sorts) same index)
-  term_truth t s (HasSortIn.reading a u i e array index at) same is = read_truth a i e array same (read_level (term.Read a u) u a refl is) u
-  term_truth t s (HasSortIn.last a e array plainly) same is = absurd (no_default (term.Default a) a refl is)
+  term_truth t s (HasSortIn.reading a u i e inside index at) same is = read_truth a i e inside same (read_level (term.Read a u) u a refl is) u
+  term_truth t s (HasSortIn.last a e inside plainly) same is = absurd (no_default (term.Default a) a refl is)
 
 not_is : (x b : Bool) → not x ≡ b → x ≡ not b
 not_is true true e = absurd (true≢false (sym e))
@@ -167,15 +167,15 @@ module _ (gs : List Function) (m : FunctionModel) (p : Point) where
           let own = sym (truth_iff (values_at m p) h k) ∙ e in
           let parts = iff_parts h k is in
           iff_step h k b (⊎_elim
-          (λ yes. inl (matrix_holds h left parts.0 true yes, matrix_holds k right parts.1 b (sym (ap (λ x. if x then truth k else not (truth k)) yes) ∙ own)))
-          (λ no. inr (matrix_holds h left parts.0 false no, matrix_holds k right parts.1 (not b) (not_is (truth k) b (sym (ap (λ x. if x then truth k else not (truth k)) no) ∙ own))))
+          (λ passed. inl (matrix_holds h left parts.0 true passed, matrix_holds k right parts.1 b (sym (ap (λ x. if x then truth k else not (truth k)) passed) ∙ own)))
+          (λ failed. inr (matrix_holds h left parts.0 false failed, matrix_holds k right parts.1 (not b) (not_is (truth k) b (sym (ap (λ x. if x then truth k else not (truth k)) failed) ∙ own))))
           (cases_Bool (truth h)))
       matrix_holds f (IsMatrix.choice c h k condition left right) is b e =
           let own = sym (truth_choose (values_at m p) c h k) ∙ e in
           let parts = choose_parts c h k is in
           choose_step c h k b (⊎_elim
-          (λ yes. inl (matrix_holds c condition parts.0 true yes, matrix_holds h left parts.1 b (sym (ap (λ x. if x then truth h else truth k) yes) ∙ own)))
-          (λ no. inr (matrix_holds c condition parts.0 false no, matrix_holds k right parts.2 b (sym (ap (λ x. if x then truth h else truth k) no) ∙ own)))
+          (λ passed. inl (matrix_holds c condition parts.0 true passed, matrix_holds h left parts.1 b (sym (ap (λ x. if x then truth h else truth k) passed) ∙ own)))
+          (λ failed. inr (matrix_holds c condition parts.0 false failed, matrix_holds k right parts.2 b (sym (ap (λ x. if x then truth h else truth k) failed) ∙ own)))
           (cases_Bool (truth c)))
 
       each_true : (fs : List Formula) → AreMatrices g scope fs → All IsEvaluableFormula fs → list_all truth fs ≡ true → EachOf (Holds true) fs

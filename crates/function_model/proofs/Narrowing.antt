@@ -84,13 +84,13 @@ module _ (table : Table) (sound : IsSoundTable table) (args : List Value) (more 
       (cases_lt i j)
 
 -- one more argument
-filter_filter : {X : Type 0} (p q : X → Bool) (xs : List X) → filter p (filter q xs) ≡ filter (λ x. q x && p x) xs
+filter_filter : {X : Type 0} → (p q : X → Bool) (xs : List X) → filter p (filter q xs) ≡ filter (λ x. q x && p x) xs
 filter_filter p q [] = refl
-filter_filter p q (x ∷ xs) = by (q x)
+filter_filter {X} p q (x ∷ xs) = by (q x) (filter q xs) (filter (λ y. q y && p y) xs) (filter_filter p q xs)
   where
-    by : (b : Bool) → filter p (cond b (x ∷ filter q xs) (filter q xs)) ≡ cond (b && p x) (x ∷ filter (λ y. q y && p y) xs) (filter (λ y. q y && p y) xs)
-    by true = ap (λ rest. cond (p x) (x ∷ rest) rest) (filter_filter p q xs)
-    by false = filter_filter p q xs
+    by : (b : Bool) (ys zs : List X) → filter p ys ≡ zs → filter p (cond b (x ∷ ys) ys) ≡ cond (b && p x) (x ∷ zs) zs
+    by true ys zs same = ap (λ rest. cond (p x) (x ∷ rest) rest) same
+    by false ys zs same = same
 
 agrees_more : (ps : List Value) (kss : List (List Value)) (vs : List Value) (v : Value) (d : List Value) → length vs < length kss
     → agrees ps kss (vs ++ v ∷ []) ≡ (agrees ps kss vs && passes (λ own. is_same own (projected (get_or kss (length vs) d) v)) (slice_get ps (length vs)))
@@ -137,14 +137,16 @@ module _ (knots : List (List Value)) (args : List Value) (default : Value) where
   first_row (row ∷ rows) stand e =
       by (agrees row.places knots args) (is_at row.places knots args)
       (agrees_all row.places knots args (stand_length knots row.places (All-head Stand row rows stand)) e)
+      (first_row rows (All-tail Stand row rows stand) e)
     where
       by : (b c : Bool) → b ≡ c
+          → first_value (filter (λ (other : Row). agrees other.places knots args) rows) default ≡ value_at rows knots args default
           → first_value (cond b (row ∷ filter (λ (other : Row). agrees other.places knots args) rows) (filter (λ (other : Row). agrees other.places knots args) rows)) default
           ≡ (if c then row.value else value_at rows knots args default)
-      by true true same = refl
-      by true false same = absurd (true≢false same)
-      by false true same = absurd (true≢false (sym same))
-      by false false same = first_row rows (All-tail Stand row rows stand) e
+      by true true same rest = refl
+      by true false same rest = absurd (true≢false same)
+      by false true same rest = absurd (true≢false (sym same))
+      by false false same rest = rest
 
   no_row : (rows : List Row) → All Stand rows → (length args ≡ length knots → ⊥) → value_at rows knots args default ≡ default
   no_row [] stand other = refl

@@ -13,23 +13,23 @@ module _ {X : Type 0} (low high kept : X → Bool) (below : (x : X) → low x �
     (within : (x : X) → low x ≡ false → high x ≡ true → kept x ≡ true) (above : (x : X) → high x ≡ false → kept x ≡ false) where
   -- what is below isn't kept
   front : (xs : List X) (i : ℕ) → AllWithin (λ x. low x ≡ true) xs 0 i → filter kept (drop i xs) ≡ filter kept xs
-  front xs zero yes = refl
-  front [] (suc i) yes = refl
-  front (x ∷ xs) (suc i) yes =
-      front xs i (λ j e l u. yes (suc j) e (omega arith) (omega arith))
-      ∙ sym (ap (λ b. cond b (x ∷ filter kept xs) (filter kept xs)) (below x (yes 0 x (omega arith) (omega arith))))
+  front xs zero passed = refl
+  front [] (suc i) passed = refl
+  front (x ∷ xs) (suc i) passed =
+      front xs i (λ j e l u. passed (suc j) e (omega arith) (omega arith))
+      ∙ sym (ap (λ b. cond b (x ∷ filter kept xs) (filter kept xs)) (below x (passed 0 x (omega arith) (omega arith))))
 
   -- of the others the first are kept
   others : (xs : List X) (j : ℕ) → j ≤ length xs → AllWithin (λ x. low x ≡ false) xs 0 (length xs)
       → AllWithin (λ x. high x ≡ true) xs 0 j → AllWithin (λ x. high x ≡ false) xs j (length xs) → take j xs ≡ filter kept xs
-  others [] zero h no yes out = refl
-  others [] (suc j) h no yes out = absurd (omega arith)
-  others (x ∷ xs) zero h no yes out =
-      others xs 0 (omega arith) (λ k e l u. no (suc k) e (omega arith) (omega arith)) (λ k e l u. absurd (omega arith)) (λ k e l u. out (suc k) e (omega arith) (omega arith))
+  others [] zero h failed passed out = refl
+  others [] (suc j) h failed passed out = absurd (omega arith)
+  others (x ∷ xs) zero h failed passed out =
+      others xs 0 (omega arith) (λ k e l u. failed (suc k) e (omega arith) (omega arith)) (λ k e l u. absurd (omega arith)) (λ k e l u. out (suc k) e (omega arith) (omega arith))
       ∙ sym (ap (λ b. cond b (x ∷ filter kept xs) (filter kept xs)) (above x (out 0 x (omega arith) (omega arith))))
-  others (x ∷ xs) (suc j) h no yes out =
-      ap (λ rest. x ∷ rest) (others xs j (omega arith) (λ k e l u. no (suc k) e (omega arith) (omega arith)) (λ k e l u. yes (suc k) e (omega arith) (omega arith)) (λ k e l u. out (suc k) e (omega arith) (omega arith)))
-      ∙ sym (ap (λ b. cond b (x ∷ filter kept xs) (filter kept xs)) (within x (no 0 x (omega arith) (omega arith)) (yes 0 x (omega arith) (omega arith))))
+  others (x ∷ xs) (suc j) h failed passed out =
+      ap (λ rest. x ∷ rest) (others xs j (omega arith) (λ k e l u. failed (suc k) e (omega arith) (omega arith)) (λ k e l u. passed (suc k) e (omega arith) (omega arith)) (λ k e l u. out (suc k) e (omega arith) (omega arith)))
+      ∙ sym (ap (λ b. cond b (x ∷ filter kept xs) (filter kept xs)) (within x (failed 0 x (omega arith) (omega arith)) (passed 0 x (omega arith) (omega arith))))
 
   pub between : (xs : List X) (i j : ℕ) → IsPartitionPoint (λ x. low x ≡ true) (λ x. low x ≡ false) xs i → j ≤ length (drop i xs)
       → IsPartitionPoint (λ x. high x ≡ true) (λ x. high x ≡ false) (drop i xs) j → take j (drop i xs) ≡ filter kept xs

@@ -28,13 +28,13 @@ use Rattle.mbqi_terms.specs.Tree.{Layer}
 use Rattle.function_model.proofs.Induction.{Cases, each_array}
 
 -- the tests of a level's own data
-no : {P : Type 0} → false ≡ true → P
-no e = absurd (true≢false (sym e))
+never : {P : Type 0} → false ≡ true → P
+never e = absurd (true≢false (sym e))
 
 equal_from : (o : Ordering) → is_eq o ≡ true → o ≡ Equal
-equal_from Less e = no e
+equal_from Less e = never e
 equal_from Equal e = refl
-equal_from Greater e = no e
+equal_from Greater e = never e
 
 number_is : (m n : ℤ) → is_eq (int_cmp m n) ≡ true → m ≡ n
 number_is m n e = exact_signed m n (equal_from (int_cmp m n) e)
@@ -44,8 +44,8 @@ number_self n = ap is_eq (tied_itself int_cmp_total n)
 
 truth_is : (b c : Bool) → (if b then c else not c) ≡ true → b ≡ c
 truth_is true true e = refl
-truth_is true false e = no e
-truth_is false true e = no e
+truth_is true false e = never e
+truth_is false true e = never e
 truth_is false false e = refl
 
 truth_self : (b : Bool) → (if b then b else not b) ≡ true
@@ -54,20 +54,20 @@ truth_self false = refl
 
 operation_is : (f g : MapOp) → same_operation f g ≡ true → f ≡ g
 operation_is (op.Declared f) (op.Declared g) e = ap op.Declared (eqb-true f g e)
-operation_is (op.Declared f) op.And e = no e
-operation_is (op.Declared f) op.Or e = no e
-operation_is (op.Declared f) op.Not e = no e
-operation_is op.And (op.Declared g) e = no e
+operation_is (op.Declared f) op.And e = never e
+operation_is (op.Declared f) op.Or e = never e
+operation_is (op.Declared f) op.Not e = never e
+operation_is op.And (op.Declared g) e = never e
 operation_is op.And op.And e = refl
-operation_is op.And op.Or e = no e
-operation_is op.And op.Not e = no e
-operation_is op.Or (op.Declared g) e = no e
-operation_is op.Or op.And e = no e
+operation_is op.And op.Or e = never e
+operation_is op.And op.Not e = never e
+operation_is op.Or (op.Declared g) e = never e
+operation_is op.Or op.And e = never e
 operation_is op.Or op.Or e = refl
-operation_is op.Or op.Not e = no e
-operation_is op.Not (op.Declared g) e = no e
-operation_is op.Not op.And e = no e
-operation_is op.Not op.Or e = no e
+operation_is op.Or op.Not e = never e
+operation_is op.Not (op.Declared g) e = never e
+operation_is op.Not op.And e = never e
+operation_is op.Not op.Or e = never e
 operation_is op.Not op.Not e = refl
 
 operation_self : (f : MapOp) → same_operation f f ≡ true
@@ -78,13 +78,13 @@ operation_self op.Not = refl
 
 plain_is : (p q : Plain) → is_plain p q ≡ true → p ≡ q
 plain_is plain.Truth plain.Truth e = refl
-plain_is plain.Truth plain.Int e = no e
-plain_is plain.Truth (plain.Elem t) e = no e
-plain_is plain.Int plain.Truth e = no e
+plain_is plain.Truth plain.Int e = never e
+plain_is plain.Truth (plain.Elem t) e = never e
+plain_is plain.Int plain.Truth e = never e
 plain_is plain.Int plain.Int e = refl
-plain_is plain.Int (plain.Elem t) e = no e
-plain_is (plain.Elem s) plain.Truth e = no e
-plain_is (plain.Elem s) plain.Int e = no e
+plain_is plain.Int (plain.Elem t) e = never e
+plain_is (plain.Elem s) plain.Truth e = never e
+plain_is (plain.Elem s) plain.Int e = never e
 plain_is (plain.Elem s) (plain.Elem t) e = ap plain.Elem (eqb-true s t e)
 
 plain_self : (p : Plain) → is_plain p p ≡ true
@@ -94,20 +94,20 @@ plain_self (plain.Elem s) = eq-eqb s s refl
 
 sort_is : (s t : Sort) → is_sort s t ≡ true → s ≡ t
 sort_is sort.Truth sort.Truth e = refl
-sort_is sort.Truth sort.Int e = no e
-sort_is sort.Truth (sort.Elem t) e = no e
-sort_is sort.Truth (sort.Array i f) e = no e
-sort_is sort.Int sort.Truth e = no e
+sort_is sort.Truth sort.Int e = never e
+sort_is sort.Truth (sort.Elem t) e = never e
+sort_is sort.Truth (sort.Array i f) e = never e
+sort_is sort.Int sort.Truth e = never e
 sort_is sort.Int sort.Int e = refl
-sort_is sort.Int (sort.Elem t) e = no e
-sort_is sort.Int (sort.Array i f) e = no e
-sort_is (sort.Elem s) sort.Truth e = no e
-sort_is (sort.Elem s) sort.Int e = no e
+sort_is sort.Int (sort.Elem t) e = never e
+sort_is sort.Int (sort.Array i f) e = never e
+sort_is (sort.Elem s) sort.Truth e = never e
+sort_is (sort.Elem s) sort.Int e = never e
 sort_is (sort.Elem s) (sort.Elem t) e = ap sort.Elem (eqb-true s t e)
-sort_is (sort.Elem s) (sort.Array i f) e = no e
-sort_is (sort.Array i f) sort.Truth e = no e
-sort_is (sort.Array i f) sort.Int e = no e
-sort_is (sort.Array i f) (sort.Elem t) e = no e
+sort_is (sort.Elem s) (sort.Array i f) e = never e
+sort_is (sort.Array i f) sort.Truth e = never e
+sort_is (sort.Array i f) sort.Int e = never e
+sort_is (sort.Array i f) (sort.Elem t) e = never e
 sort_is (sort.Array i f) (sort.Array j g) e =
     let both = and_parts (is_plain i j) (is_plain f g) e in
     let index = plain_is i j both.0 in
@@ -122,7 +122,6 @@ sort_self (sort.Array i f) = and_from (is_plain i i) (is_plain f f) (plain_self 
 
 -- the test of a symbol
 same_symbol : Symbol → Symbol → Bool
-unfolding same_array
 same_symbol = fold-Symbol (ArrayTerm → Bool) (Symbol → Bool) (Term → Bool)
     (λ layer a. array_test layer (out-ArrayTerm a)) (λ layer f. symbol_test layer (out-Symbol f)) (λ layer t. term_test layer (out-Term t))
 
@@ -161,8 +160,8 @@ IsTerm t = (u : Term) → same_term t u ≡ true → t ≡ u
 all_are : {X : Type 0} (same : X → X → Bool) (xs ys : List X) → AllByRecursion (λ x. (y : X) → same x y ≡ true → x ≡ y) xs
     → all_pass (map same xs) ys ≡ true → xs ≡ ys
 all_are same [] [] each e = refl
-all_are same [] (y ∷ ys) each e = no e
-all_are same (x ∷ xs) [] each e = no e
+all_are same [] (y ∷ ys) each e = never e
+all_are same (x ∷ xs) [] each e = never e
 all_are same (x ∷ xs) (y ∷ ys) each e =
     let both = and_parts (same x y) (all_pass (map same xs) ys) e in
     let first = each.0 y both.0 in
@@ -171,18 +170,18 @@ all_are same (x ∷ xs) (y ∷ ys) each e =
 
 name_is : (f : ℕ) (y : ArrayTerm-F ArrayTerm Symbol Term) → array_test (ArrayTerm-F.Name f) y ≡ true → ArrayTerm-F.Name f ≡ y
 name_is f (ArrayTerm-F.Name g) e = ap (λ n. ArrayTerm-F.Name n) (eqb-true f g e)
-name_is f y e = no e
+name_is f y e = never e
 
 store_is : (a : ArrayTerm) (i v : Term) → IsArray a → IsTerm i → IsTerm v → (y : ArrayTerm-F ArrayTerm Symbol Term)
     → array_test (ArrayTerm-F.Store (same_array a) (same_term i) (same_term v)) y ≡ true → ArrayTerm-F.Store a i v ≡ y
 store_is a i v left index worth (ArrayTerm-F.Store b j w) e =
     let both = and_parts (same_array a b) (same_term i j && same_term v w) e in
     let rest = and_parts (same_term i j) (same_term v w) both.1 in
-    let array = left b both.0 in
+    let changed = left b both.0 in
     let at = index j rest.0 in
     let stored = worth w rest.1 in
-    λ k. ArrayTerm-F.Store (array k) (at k) (stored k)
-store_is a i v left index worth y e = no e
+    λ k. ArrayTerm-F.Store (changed k) (at k) (stored k)
+store_is a i v left index worth y e = never e
 
 constant_is : (s : Sort) (v : Term) → IsTerm v → (y : ArrayTerm-F ArrayTerm Symbol Term)
     → array_test (ArrayTerm-F.Const s (same_term v)) y ≡ true → ArrayTerm-F.Const s v ≡ y
@@ -191,7 +190,7 @@ constant_is s v worth (ArrayTerm-F.Const t w) e =
     let sorts = sort_is s t both.0 in
     let values = worth w both.1 in
     λ k. ArrayTerm-F.Const (sorts k) (values k)
-constant_is s v worth y e = no e
+constant_is s v worth y e = never e
 
 map_is : (f : MapOp) (parts : List ArrayTerm) → AllByRecursion IsArray parts → (y : ArrayTerm-F ArrayTerm Symbol Term)
     → array_test (ArrayTerm-F.Map f (map same_array parts)) y ≡ true → ArrayTerm-F.Map f parts ≡ y
@@ -200,11 +199,11 @@ map_is f parts all (ArrayTerm-F.Map g others) e =
     let operations = operation_is f g both.0 in
     let arrays = all_are same_array parts others all both.1 in
     λ k. ArrayTerm-F.Map (operations k) (arrays k)
-map_is f parts all y e = no e
+map_is f parts all y e = never e
 
 declared_is : (f : ℕ) (y : Symbol-F ArrayTerm Symbol Term) → symbol_test (Symbol-F.Declared f) y ≡ true → Symbol-F.Declared f ≡ y
 declared_is f (Symbol-F.Declared g) e = ap (λ n. Symbol-F.Declared n) (eqb-true f g e)
-declared_is f y e = no e
+declared_is f y e = never e
 
 skolem_is : (assertion place : ℕ) (y : Symbol-F ArrayTerm Symbol Term) → symbol_test (Symbol-F.Skolem assertion place) y ≡ true → Symbol-F.Skolem assertion place ≡ y
 skolem_is assertion place (Symbol-F.Skolem a p) e =
@@ -212,15 +211,15 @@ skolem_is assertion place (Symbol-F.Skolem a p) e =
     let assertions = eqb-true assertion a both.0 in
     let places = eqb-true place p both.1 in
     λ k. Symbol-F.Skolem (assertions k) (places k)
-skolem_is assertion place y e = no e
+skolem_is assertion place y e = never e
 
 seed_is : (s : ℕ) (y : Symbol-F ArrayTerm Symbol Term) → symbol_test (Symbol-F.Seed s) y ≡ true → Symbol-F.Seed s ≡ y
 seed_is s (Symbol-F.Seed t) e = ap (λ n. Symbol-F.Seed n) (eqb-true s t e)
-seed_is s y e = no e
+seed_is s y e = never e
 
 far_is : (y : Symbol-F ArrayTerm Symbol Term) → symbol_test Symbol-F.Far y ≡ true → Symbol-F.Far ≡ y
 far_is Symbol-F.Far e = refl
-far_is y e = no e
+far_is y e = never e
 
 difference_is : (a b : ArrayTerm) → IsArray a → IsArray b → (y : Symbol-F ArrayTerm Symbol Term)
     → symbol_test (Symbol-F.Diff (same_array a) (same_array b)) y ≡ true → Symbol-F.Diff a b ≡ y
@@ -229,11 +228,11 @@ difference_is a b left right (Symbol-F.Diff c d) e =
     let first = left c both.0 in
     let second = right d both.1 in
     λ k. Symbol-F.Diff (first k) (second k)
-difference_is a b left right y e = no e
+difference_is a b left right y e = never e
 
 numeral_is : (n : ℤ) (y : Layer) → term_test (Term-F.Num n) y ≡ true → Term-F.Num n ≡ y
 numeral_is n (Term-F.Num m) e = ap (λ k. Term-F.Num k) (number_is n m e)
-numeral_is n y e = no e
+numeral_is n y e = never e
 
 sum_is : (t : Term) (n : ℤ) → IsTerm t → (y : Layer) → term_test (Term-F.Plus (same_term t) n) y ≡ true → Term-F.Plus t n ≡ y
 sum_is t n is (Term-F.Plus u m) e =
@@ -241,15 +240,15 @@ sum_is t n is (Term-F.Plus u m) e =
     let base = is u both.0 in
     let number = number_is n m both.1 in
     λ k. Term-F.Plus (base k) (number k)
-sum_is t n is y e = no e
+sum_is t n is y e = never e
 
 variable_is : (place : ℕ) (y : Layer) → term_test (Term-F.Var place) y ≡ true → Term-F.Var place ≡ y
 variable_is place (Term-F.Var p) e = ap (λ n. Term-F.Var n) (eqb-true place p e)
-variable_is place y e = no e
+variable_is place y e = never e
 
 truth_term_is : (b : Bool) (y : Layer) → term_test (Term-F.Truth b) y ≡ true → Term-F.Truth b ≡ y
 truth_term_is b (Term-F.Truth c) e = ap (λ t. Term-F.Truth t) (truth_is b c e)
-truth_term_is b y e = no e
+truth_term_is b y e = never e
 
 application_is : (f : Symbol) (ts : List Term) → IsSymbol f → AllByRecursion IsTerm ts → (y : Layer)
     → term_test (Term-F.Apply (same_symbol f) (map same_term ts)) y ≡ true → Term-F.Apply f ts ≡ y
@@ -258,19 +257,19 @@ application_is f ts is all (Term-F.Apply g us) e =
     let symbols = is g both.0 in
     let terms = all_are same_term ts us all both.1 in
     λ k. Term-F.Apply (symbols k) (terms k)
-application_is f ts is all y e = no e
+application_is f ts is all y e = never e
 
 reading_is : (a : ArrayTerm) (i : Term) → IsArray a → IsTerm i → (y : Layer) → term_test (Term-F.Read (same_array a) (same_term i)) y ≡ true → Term-F.Read a i ≡ y
 reading_is a i left index (Term-F.Read b j) e =
     let both = and_parts (same_array a b) (same_term i j) e in
-    let array = left b both.0 in
+    let inner = left b both.0 in
     let at = index j both.1 in
-    λ k. Term-F.Read (array k) (at k)
-reading_is a i left index y e = no e
+    λ k. Term-F.Read (inner k) (at k)
+reading_is a i left index y e = never e
 
 default_is : (a : ArrayTerm) → IsArray a → (y : Layer) → term_test (Term-F.Default (same_array a)) y ≡ true → Term-F.Default a ≡ y
 default_is a is (Term-F.Default b) e = ap (λ c. Term-F.Default c) (is b e)
-default_is a is y e = no e
+default_is a is y e = never e
 
 -- from levels to trees
 of_array : (layer : ArrayTerm-F ArrayTerm Symbol Term) (a : ArrayTerm) → roll-ArrayTerm layer ≡ a

@@ -1,6 +1,6 @@
 -- A model that fits a script is sound, and gives values of the script's sorts.
 use Rattle.std.proofs.Common.{◌≡◌, ℕ, zero, suc, ◌+◌, Bool, true, false, cond, ◌==◌, ◌&&◌, List, [], ◌∷◌, ◌++◌, map, append-nil, append_assoc, zero-add, eq-eqb, ne_eqb, if◌then◌else◌, refl, ap, sym, subst, ◌∙◌, arith}
-use Rattle.std.specs.Prelude.{All, Option, None, Some, find, slice_get}
+use Rattle.std.specs.Prelude.{All, Option, None, Some, filter, find, slice_get}
 use Rattle.std.specs.List.{AllByRecursion, AllZip}
 use Rattle.std.proofs.lemmas.Cmp.{nat_eq_equiv}
 use Rattle.std.proofs.lemmas.List.Elements.{All-cons, All-head, All-nil, All-tail}
@@ -13,11 +13,12 @@ use Rattle.mbqi_terms.specs.declared.store.lists.Lists.{Lists}
 use Rattle.mbqi_terms.specs.InForm.{plain_lists}
 use Rattle.mbqi_terms.specs.Lists.{skolem_of}
 use Rattle.mbqi_terms.specs.ScriptLists.{lists_of, skolems_of}
-use Rattle.function_model.specs.Fits.{AreRows, Fits, FitsFull, FitsSignature, FitsTable, HaveKnots, IsRow, IsSmall, RiseFrom, RowsRiseFrom, Signature, StandOn, array_signatures, default_signature, difference_signature, function_signature, function_signatures, hidden_signatures, places_of, read_signature, sameness_signature, seed_signatures, shown_signatures, skolem_signature, values_of}
+use Rattle.function_model.specs.Fits.{AreRows, Fits, FitsFull, FitsSignature, FitsTable, HaveKnots, IsRow, IsSmall, RiseFrom, RowsRiseFrom, Signature, StandOn, array_signatures, default_signature, difference_signature, far_signature, function_signature, function_signatures, hidden_signatures, places_of, read_signature, sameness_signature, seed_signatures, shown_signatures, skolem_signature, values_of}
 use Rattle.function_model.specs.Holds.{IsOf}
 use Rattle.function_model.specs.Lookup.{given_by, is_at, is_declared, is_skolem, looked_up, looked_up_in, value_at}
 use Rattle.function_model.specs.Rising.{RowsRise}
 use Rattle.function_model.specs.Sound.{GivesSorts, IsSound, IsSoundTable, KnotsRise}
+use Rattle.function_model.specs.ValueOf.{is_compound}
 use Rattle.function_model.specs.declared.model.FunctionModel.{FunctionModel}
 use Rattle.function_model.specs.declared.model.Row.{Row}
 use Rattle.function_model.specs.declared.model.Table.{Table}
@@ -84,11 +85,11 @@ module _ (sizes : List ℕ) where
 
     given_of_sort : (rows : List Row) → All HasValue rows → IsOf sizes s (value_at rows knots vs default)
     given_of_sort [] all = of_sort
-    given_of_sort (row ∷ rows) all = by (is_at row.places knots vs)
+    given_of_sort (row ∷ rows) all = by (is_at row.places knots vs) (given_of_sort rows (All-tail HasValue row rows all))
       where
-        by : (b : Bool) → IsOf sizes s (if b then row.value else value_at rows knots vs default)
-        by true = All-head HasValue row rows all
-        by false = given_of_sort rows (All-tail HasValue row rows all)
+        by : (b : Bool) → IsOf sizes s (value_at rows knots vs default) → IsOf sizes s (if b then row.value else value_at rows knots vs default)
+        by true rest = All-head HasValue row rows all
+        by false rest = rest
 
   table_of_sort : (args : List Sort) (s : Sort) (table : Table) → FitsTable sizes args s table → (vs : List Value) → IsOf sizes s (looked_up_in table vs)
   table_of_sort args s table fit vs =
@@ -123,12 +124,19 @@ none_in_seeds s (name ∷ names) = (tt, none_in_seeds (s + 1) names)
 
 none_in_arrays : (l : Lists) → NoneDeclared (array_signatures l)
 none_in_arrays l =
-    none_in_both _ _ (none_in_map (difference_signature l) (λ pair. tt) _)
-    (none_in_both _ _ (none_in_map (default_signature l) (λ a. tt) _)
-    (none_in_both _ _ (none_in_map (read_signature l) (λ a. tt) _) (none_in_map sameness_signature (λ pair. tt) _)))
+    let differences = map (difference_signature l) l.arrays.atoms in
+    let defaults = map (default_signature l) l.arrays.defaults in
+    let reads = map (read_signature l) (filter is_compound l.arrays.terms) in
+    let samenesses = map sameness_signature l.arrays.atoms in
+    none_in_both differences (defaults ++ (reads ++ samenesses)) (none_in_map (difference_signature l) (λ pair. tt) l.arrays.atoms)
+    (none_in_both defaults (reads ++ samenesses) (none_in_map (default_signature l) (λ a. tt) l.arrays.defaults)
+    (none_in_both reads samenesses (none_in_map (read_signature l) (λ a. tt) (filter is_compound l.arrays.terms))
+    (none_in_map sameness_signature (λ pair. tt) l.arrays.atoms)))
 
 none_hidden : (script : Script) → NoneDeclared (hidden_signatures script)
-none_hidden script = none_in_both _ _ (none_in_seeds 0 script.sorts) (tt, none_in_arrays (lists_of script))
+none_hidden script =
+    none_in_both (seed_signatures 0 script.sorts) (far_signature ∷ array_signatures (lists_of script)) (none_in_seeds 0 script.sorts)
+    (tt, none_in_arrays (lists_of script))
 
 none_at : (signatures : List Signature) → NoneDeclared signatures → (at f : ℕ) (signature : Signature) → slice_get signatures at ≡ Some signature
     → signature.name ≡ Declared f → ⊥
@@ -205,17 +213,19 @@ module _ (sizes : List ℕ) where
   find_skolem assertion place skolem (s ∷ ss) others (t ∷ ts) zip there =
       by ((s.assertion == assertion) && (s.place == place))
       (ap (is_skolem assertion place) zip.0.name ∙ (λ i. nat_eq_equiv.symm assertion s.assertion i && nat_eq_equiv.symm place s.place i)) there
+      (find_skolem assertion place skolem ss others ts zip.1)
     where
       by : (b : Bool) → is_skolem assertion place t.name ≡ b → cond b (Some s) (skolem_of ss assertion place) ≡ Some skolem
+          → (skolem_of ss assertion place ≡ Some skolem → Found (is_skolem assertion place) skolem.args skolem.result ts)
           → Found (is_skolem assertion place) skolem.args skolem.result (t ∷ ts)
-      by true here there =
+      by true here there behind =
           let same : s ≡ skolem = cc in (
             t,
             ap (λ b. cond b (Some t) (find (λ (u : Table). is_skolem assertion place u.name) ts)) here,
             subst (λ (one : SkolemSort). FitsTable sizes one.args one.result t) same zip.0.fits,
           )
-      by false other there =
-          let rest = find_skolem assertion place skolem ss others ts zip.1 there in
+      by false other there behind =
+          let rest = behind there in
           (rest.0, ap (λ b. cond b (Some t) (find (λ (u : Table). is_skolem assertion place u.name) ts)) other ∙ rest.1, rest.2)
 
 -- a model with a table for each function, then for each Skolem symbol, then for other names

@@ -91,11 +91,13 @@ module _ (f : ℕ) where
   -- none stands behind its number
   none_behind : (n : ℕ) (tables : List Table) → AreNumbered n tables → f < n → find (λ (t : Table). is_declared f t.name) tables ≡ None
   none_behind n [] numbered behind = refl
-  none_behind n (t ∷ ts) numbered behind = by (is_declared f t.name) refl
+  none_behind n (t ∷ ts) numbered behind =
+      by (is_declared f t.name) refl (none_behind (n + 1) ts (numbered_behind n t ts numbered) (omega (arith, behind)))
     where
-      by : (b : Bool) → is_declared f t.name ≡ b → cond b (Some t) (find (λ (u : Table). is_declared f u.name) ts) ≡ None
-      by true e = absurd (omega (arith, numbered 0 f t refl (named f t.name e), behind))
-      by false e = none_behind (n + 1) ts (numbered_behind n t ts numbered) (omega (arith, behind))
+      by : (b : Bool) → is_declared f t.name ≡ b → find (λ (u : Table). is_declared f u.name) ts ≡ None
+          → cond b (Some t) (find (λ (u : Table). is_declared f u.name) ts) ≡ None
+      by true e rest = absurd (omega (arith, numbered 0 f t refl (named f t.name e), behind))
+      by false e rest = rest
 
   at_number : (n k : ℕ) → f ≡ n + k → (tables : List Table) → AreNumbered n tables
       → find (λ (t : Table). is_declared f t.name) tables ≡ checked f (slice_get tables k)
@@ -105,11 +107,13 @@ module _ (f : ℕ) where
       by : (b : Bool) → cond b (Some t) (find (λ (u : Table). is_declared f u.name) ts) ≡ (if b then Some t else None)
       by true = refl
       by false = none_behind (n + 1) ts (numbered_behind n t ts numbered) (omega (arith, e))
-  at_number n (suc k) e (t ∷ ts) numbered = by (is_declared f t.name) refl
+  at_number n (suc k) e (t ∷ ts) numbered =
+      by (is_declared f t.name) refl (at_number (n + 1) k (omega (arith, e)) ts (numbered_behind n t ts numbered))
     where
-      by : (b : Bool) → is_declared f t.name ≡ b → cond b (Some t) (find (λ (u : Table). is_declared f u.name) ts) ≡ checked f (slice_get ts k)
-      by true here = absurd (omega (arith, numbered 0 f t refl (named f t.name here), e))
-      by false here = at_number (n + 1) k (omega (arith, e)) ts (numbered_behind n t ts numbered)
+      by : (b : Bool) → is_declared f t.name ≡ b → find (λ (u : Table). is_declared f u.name) ts ≡ checked f (slice_get ts k)
+          → cond b (Some t) (find (λ (u : Table). is_declared f u.name) ts) ≡ checked f (slice_get ts k)
+      by true here rest = absurd (omega (arith, numbered 0 f t refl (named f t.name here), e))
+      by false here rest = rest
 
   pub declared_at : (m : FunctionModel) → IsSound m → table_where (is_declared f) m ≡ checked f (slice_get m.tables f)
   declared_at m sound =

@@ -1,11 +1,11 @@
 //! The values of terms in a model, from its tables alone.
 
-ghost use Rattle.std.specs.Prelude.{◌≡◌, false, map, All};
+ghost use Rattle.std.specs.Prelude.{◌≡◌, false, [], ◌∷◌, map, All};
 ghost use Rattle.mbqi_values.specs.Sum.{IsBelow};
 ghost use Rattle.mbqi_values.specs.Value.{plus_number};
 ghost use Rattle.function_model.specs.Evaluable.{IsEvaluable};
 ghost use Rattle.function_model.specs.Fits.{IsSmall};
-ghost use Rattle.function_model.specs.Lookup.{looked_up_in};
+ghost use Rattle.function_model.specs.Lookup.{given_by, is_declared, looked_up_in};
 ghost use Rattle.function_model.specs.Points.{point_of};
 ghost use Rattle.function_model.specs.Sound.{IsSound, IsSoundTable};
 ghost use Rattle.function_model.specs.Tabled.{symbol_gives};
@@ -108,11 +108,18 @@ fn read_name(model: &FunctionModel, array: &ArrayTerm, index: Value) -> Value
     ensures { (p : Point) → result ≡ (array_of model.now array.now p).read index }
 {
     match array {
-        ArrayTerm::Name(function) => match model.declared_table(*function) {
-            Some(table) => table.look_up_by_halves(&[index]),
-            None => Value::Truth(false),
-        },
+        ArrayTerm::Name(function) => read_at(model, *function, index),
         _ => unreachable!(),
+    }
+}
+
+fn read_at(model: &FunctionModel, function: usize, index: Value) -> Value
+    requires { IsSound model.now }
+    ensures { result ≡ given_by (is_declared function) model.now (index ∷ []) }
+{
+    match model.declared_table(function) {
+        Some(table) => table.look_up_by_halves(&[index]),
+        None => Value::Truth(false),
     }
 }
 

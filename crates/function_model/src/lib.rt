@@ -7,6 +7,8 @@
 
 mod by_halves;
 mod eval;
+mod eval_ids;
+mod ground;
 mod laws;
 mod look_up;
 pub mod model;

@@ -3,9 +3,10 @@
 ghost use Rattle.std.specs.Prelude.{◌≡◌, IfSome};
 ghost use Rattle.std.specs.Option.{option_copied};
 ghost use Rattle.mbqi_terms.specs.SameTree.{same_array};
+ghost use Rattle.mbqi_terms.specs.declared.term.ArrayTerm.{out-ArrayTerm};
 ghost use Rattle.function_model.specs.Lookup.{is_declared, is_difference, is_far, is_full, is_seed, is_skolem, table_where};
 ghost use Rattle.function_model.specs.Sound.{IsSound, IsSoundTable};
-ghost use Rattle.function_model.specs.Tabled.{table_of, untabled};
+ghost use Rattle.function_model.specs.Tabled.{table_of, table_of_array, untabled};
 
 use crate::model::{FunctionModel, Table, TableName};
 use mbqi_terms::{ArrayTerm, Symbol, same_array};
@@ -54,6 +55,17 @@ impl FunctionModel {
     {
         match self.tables.get(function) {
             Some(table) if is_declared(&table.name, function) => Some(table),
+            _ => None,
+        }
+    }
+
+    /// The table by which an array that is a name is read.
+    pub(crate) fn name_table(&self, array: &ArrayTerm) -> Option<&Table>
+        requires { IsSound self.now }
+        ensures { option_copied result ≡ table_of_array self.now (out-ArrayTerm array.now) }
+    {
+        match array {
+            ArrayTerm::Name(function) => self.declared_table(*function),
             _ => None,
         }
     }
