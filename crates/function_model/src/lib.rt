@@ -15,6 +15,7 @@ pub mod model;
 mod rising;
 mod shown;
 mod sound;
+mod soundness;
 mod tabled;
 
 pub use by_halves::projected_by_halves;
