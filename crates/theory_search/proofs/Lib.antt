@@ -5,6 +5,7 @@ pub mod Fullness
 pub mod Ranks
 pub mod Refusals
 pub mod Resolution
+pub mod SoleTruths
 pub mod SoundSteps
 pub mod Standings
 pub mod TruthsAt

@@ -59,7 +59,7 @@ same_or_not false true = inr refl
 same_or_not false false = inl refl
 
 -- Literals that are the same are equal.
-same_lit-equal : (a b : Lit) → same_lit a b ≡ true → a ≡ b
+pub same_lit-equal : (a b : Lit) → same_lit a b ≡ true → a ≡ b
 same_lit-equal a b same =
     let parts = and_parts (eqb a.atom b.atom) (if a.yes then b.yes else not b.yes) same in
     let atoms : a.atom ≡ b.atom = eqb-true a.atom b.atom parts.0 in

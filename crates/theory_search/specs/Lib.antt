@@ -1,4 +1,5 @@
 pub mod Advanced
+pub mod AtMostOne
 pub mod ClauseTruth
 pub mod Course
 pub mod Following

@@ -17,3 +17,6 @@ mod trail;
 mod turns;
 
 pub use turns::{Searched, search};
+
+#[cfg(test)]
+mod tests;
