@@ -17,6 +17,7 @@ pub mod SameTrees
 pub mod ShownParts
 pub mod ShownTruth
 pub mod SmallValues
+pub mod SoundTests
 pub mod Soundness
 pub mod StoreValues
 pub mod SymbolTables

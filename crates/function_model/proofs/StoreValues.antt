@@ -4,7 +4,7 @@ use Rattle.std.specs.Prelude.{All, IfSome, Some, slice_get}
 use Rattle.std.proofs.lemmas.Int.{ints}
 use Rattle.std.proofs.lemmas.List.{get_or-map, length-map}
 use Rattle.std.proofs.lemmas.List.Elements.{All-nil}
-use Rattle.std.proofs.lemmas.Option.{get_or_from_slice_get}
+use Rattle.std.proofs.lemmas.Option.{get_or_from_slice_get, slice_get-get_or}
 use Rattle.std.proofs.lemmas.Simd.{map-map}
 use Rattle.mbqi_values.specs.Sum.{IsBelow}
 use Rattle.mbqi_values.specs.Value.{plus_number}
@@ -25,6 +25,7 @@ use Rattle.mbqi_terms.specs.declared.term.Term.TheVariants as term
 use Rattle.mbqi_terms.specs.declared.term_id.TermId.{TermId}
 use Rattle.mbqi_terms.specs.Store.{HasShape, HasTree, Store, applied, array_at, first_of, head_layer, pair_at, tree_at, tree_of_node, trees_of}
 use Rattle.mbqi_terms.specs.Tree.{sum_of}
+use Rattle.mbqi_terms.proofs.Trees.{length-trees}
 use Rattle.function_model.specs.Evaluable.{IsEvaluable}
 use Rattle.function_model.specs.Fits.{IsSmall}
 use Rattle.function_model.specs.Holds.{nowhere}
@@ -243,3 +244,8 @@ module _ (s : Store) (id : TermId) (node : Node) (tree : HasTree s id (tree_of_n
 -- the tree that a number has
 pub given_tree : (s : Store) (id : TermId) (t : Term) → HasTree s id t → stored_tree s id ≡ t
 given_tree s id t has = get_or_from_slice_get (trees_of s.lists s.nodes) id.0 t (term.Num (pos 0)) has
+
+-- a stored number has a tree, which the condition speaks of
+pub stored_is_evaluable : (s : Store) (id : TermId) → id.0 < length s.nodes → ((t : Term) → HasTree s id t → IsEvaluable t) → IsEvaluable (stored_tree s id)
+stored_is_evaluable s id stored each =
+    each (stored_tree s id) (slice_get-get_or (trees_of s.lists s.nodes) id.0 (term.Num (pos 0)) (omega (arith, stored, length-trees s.lists s.nodes)))

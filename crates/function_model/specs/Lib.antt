@@ -8,5 +8,6 @@ pub mod Projection
 pub mod Rising
 pub mod Shown
 pub mod Sound
+pub mod Soundness
 pub mod Tabled
 pub mod ValueOf

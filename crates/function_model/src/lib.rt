@@ -15,6 +15,7 @@ pub mod model;
 mod rising;
 mod shown;
 mod sound;
+mod soundness;
 mod tabled;
 
 pub use by_halves::projected_by_halves;
@@ -27,3 +28,5 @@ pub use sound::{fitting_is_sound, full_is_sound};
 
 #[cfg(test)]
 mod tests;
+#[cfg(test)]
+mod value_tests;
