@@ -10,8 +10,7 @@ use Rattle.mbqi_edge.specs.Told.{with_more}
 use Rattle.mbqi_terms.specs.declared.script.Script.{Script}
 use Rattle.sexpr_text.specs.Depth.{IsShallow}
 use Rattle.function_model.specs.declared.model.FunctionModel.{FunctionModel}
-use Rattle.element_models.specs.Elements.{NoRowsWithoutArguments}
-use Rattle.function_model.specs.Fits.{Fits}
+use Rattle.function_model.specs.Fits.{Fits, NoRowsWithoutArguments}
 use Rattle.function_model.specs.Holds.{Holds}
 use Rattle.mbqi_app.specs.Command.{Command, Solve, Print, asked_for, files_of}
 use Rattle.ground_form.specs.Profile.{IsElementary}
