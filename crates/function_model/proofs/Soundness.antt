@@ -237,9 +237,9 @@ module _ (functions : List Function) (skolems : List SkolemSort) (others : List 
   model_sound none zip = record {
     tables = tables_sound model.sizes _ model.tables zip;
     numbered = λ at f table there name.
-    let found = signature_at model.sizes _ model.tables zip at table there in
-    let none_behind = none_in_both (map skolem_signature skolems) others (none_in_map skolem_signature (λ skolem. tt) skolems) none in
-    omega (arith, place_of_declared 0 functions _ none_behind at f found.0 found.1 (sym found.2.name ∙ name));
+        let found = signature_at model.sizes _ model.tables zip at table there in
+        let none_behind = none_in_both (map skolem_signature skolems) others (none_in_map skolem_signature (λ skolem. tt) skolems) none in
+        omega (arith, place_of_declared 0 functions _ none_behind at f found.0 found.1 (sym found.2.name ∙ name));
   }
 
   functions_of_sort : HasTables → (f : ℕ) (function : Function) → slice_get functions f ≡ Some function

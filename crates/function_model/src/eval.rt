@@ -32,7 +32,12 @@ impl FunctionModel {
 }
 
 #[cycle(value)]
-pub(crate) fn value_at(model: &FunctionModel, t: &Term, binders: &[Binder], point: &[Value]) -> Value
+pub(crate) fn value_at(
+    model: &FunctionModel,
+    t: &Term,
+    binders: &[Binder],
+    point: &[Value],
+) -> Value
     requires sound { IsSound model.now }
     requires term { IsEvaluable t.now }
     requires point { All IsSmall point.now }

@@ -71,7 +71,9 @@ fn has_number(name: &TableName, number: usize) -> bool
 fn all_knots_sound(knots: &[Values]) -> bool
     ensures { result ≡ list_all are_sound_knots knots.now }
 {
-    knots.iter().all(|values| are_sound_knots(values.as_slice()))
+    knots
+        .iter()
+        .all(|values| are_sound_knots(values.as_slice()))
 }
 
 fn are_sound_knots(values: &[Value]) -> bool

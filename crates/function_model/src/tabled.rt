@@ -33,7 +33,10 @@ impl FunctionModel {
             Symbol::Skolem(assertion, place) => self.skolem_table(*assertion, *place),
             Symbol::Seed(sort) => self.seed_table(*sort),
             Symbol::Far => self.far_table(),
-            Symbol::Diff(left, right) if self.is_full() => self.difference_table(left.get(), right.get()),
+            Symbol::Diff(left, right) if self.is_full() => self.difference_table(
+                left.get(),
+                right.get(),
+            ),
             Symbol::Diff(_, _) => None,
         }
     }
@@ -81,9 +84,7 @@ impl FunctionModel {
     pub(crate) fn seed_table(&self, sort: usize) -> Option<&Table>
         ensures { option_copied result ≡ table_where (is_seed sort) self.now }
     {
-        self.tables
-            .iter()
-            .find(|table| is_seed(&table.name, sort))
+        self.tables.iter().find(|table| is_seed(&table.name, sort))
     }
 
     pub(crate) fn far_table(&self) -> Option<&Table>
