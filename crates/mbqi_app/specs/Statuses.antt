@@ -130,16 +130,17 @@ IfScriptRefused status P = Unit {0}
 abbrev pub IsOneOf : Status → Status → Type 0
 IsOneOf status wanted = (status ≡ wanted) ⊎ ((status ≡ Memory) ⊎ (status ≡ ReadFault))
 
--- The question was answered, or the script printed, or memory ran out, or the text couldn't be written.
+-- `solve` answered the question, or `print` wrote the script; or memory ran out, or the text couldn't be written.
 abbrev pub IsDecided : Status → Type 0
 IsDecided status = ((status ≡ Sat) ⊎ (status ≡ Unsat)) ⊎ ((status ≡ Memory) ⊎ (status ≡ WriteFault))
 
 abbrev pub IsDone : Status → Type 0
 IsDone status = (status ≡ Done) ⊎ ((status ≡ Memory) ⊎ (status ≡ WriteFault))
 
--- There is an answer, or memory ran out, or the answer couldn't be written; or the file couldn't be read.
+-- The same of any command: there is an answer, or memory ran out, or the answer couldn't be written.
 abbrev pub IsWritten : Status → Type 0
 IsWritten status = (is_answered status ≡ true) ⊎ ((status ≡ Memory) ⊎ (status ≡ WriteFault))
 
+-- The same, or the file couldn't be read.
 abbrev pub IsFinished : Status → Type 0
 IsFinished status = (is_answered status ≡ true) ⊎ (((status ≡ Memory) ⊎ (status ≡ WriteFault)) ⊎ (status ≡ ReadFault))

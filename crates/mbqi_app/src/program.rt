@@ -75,7 +75,7 @@ pub fn run<F: Shelf, W: Sink, E: Sink, L: Ledger>(
     status
 }
 
-/// The command of the words, but for the line on `err`.
+/// `run` but for the line on `err`. Each of its other clauses is a field of `CarriesOut`.
 fn carry_out<F: Shelf, W: Sink, L: Ledger>(
     alloc: Global,
     words: &[String],
@@ -99,7 +99,7 @@ fn carry_out<F: Shelf, W: Sink, L: Ledger>(
     }
 }
 
-/// The command for a script of these bytes.
+/// The command of a task, for a script of these bytes.
 fn respond<W: Sink, L: Ledger>(
     alloc: Global,
     task: Task<'_>,
