@@ -5,8 +5,8 @@
 
 COMMAND is run with the file's name behind it, and `./mbqi print` where none is given. A line tells the seconds of one run at each
 size, and the greatest memory of the last; where time is linear in the size, each number is about twice the one before. The shapes are
-many assertions over a few names, a declaration and an assertion for each of many names, and one assertion with a long `and`. The
-scripts are made in a folder of their own, which is deleted at the end. It is no part of the gate.
+many assertions over a few names, a declaration and an assertion for each of many names, one assertion with a long `and`, and a chain
+of macros without parameters, each of which applies the one before it. The scripts are made in a folder of their own, which is deleted at the end. It is no part of the gate.
 """
 import os
 import resource
@@ -44,7 +44,12 @@ def long_and(size):
     return grown(DECLARED + "(assert (and", size, lambda i: f" (p c{i % 100} {i % 1000})") + "))\n"
 
 
-SHAPES = [("many assertions", many_assertions), ("many names", many_names), ("one long and", long_and)]
+def chain_of_macros(size):
+    head = DECLARED + "(define-fun m0 () Bool (forall ((x Int)) (p x c0)))\n"
+    return grown(head, size, lambda i: f"(define-fun m{i + 1} () Bool m{i})\n") + "(assert m1)\n"
+
+
+SHAPES = [("many assertions", many_assertions), ("many names", many_names), ("one long and", long_and), ("a chain of macros", chain_of_macros)]
 
 
 def seconds_of(command, path):

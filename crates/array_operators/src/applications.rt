@@ -1,8 +1,9 @@
 //! Applications of declared functions.
 
 ghost use Rattle.std.specs.Prelude.{◌≡◌, ◌==◌, length, Some, IfOk};
-ghost use Rattle.smtlib_terms.specs.Applying.{application, function_applied, have_sorts, terms_of};
-ghost use Rattle.smtlib_terms.specs.Names.{plain_sort};
+ghost use Rattle.smtlib_terms.specs.Applying.{application, function_applied, have_sorts, terms_of, application_of};
+ghost use Rattle.mbqi_terms.specs.Sort.{plain_sort};
+ghost use Rattle.smtlib_terms.specs.Answers.{Answers};
 ghost use Rattle.operator_arguments.specs.Measured.{Means, meaning_of, meanings_of};
 
 use crate::arrays::term_meant;
@@ -36,54 +37,65 @@ pub fn have_sorts(sorts: &[Sort], args: &[MeasuredMeaning]) -> bool
     }
 }
 
-/// The terms among the arguments.
-#[tactic(auto, using(std::proofs::lemmas::Grind::common_steps))]
-fn terms_of(alloc: Global, args: Meanings) -> Result<MeasuredTerms, AllocError>
-    ensures { IfOk result (λ terms. terms ≡ terms_of (meanings_of args)) }
+/// The arguments as terms. Refused: WrongSort where one is a formula or an array.
+#[tactic(auto, using(std::proofs::lemmas::Grind::common_steps, smtlib_terms::proofs::Steps::behind_next))]
+fn terms_of(alloc: Global, args: Meanings) -> Result<MeasuredTerms, ReadError>
+    ensures { Answers result (terms_of (meanings_of args)) }
 {
     let mut terms = MeasuredTerms::new(alloc);
     let mut args = Queue::new(args);
     while let Some(m) = args.next() {
-        if let MeasuredMeaning::Term(_, t) = m {
-            terms.push(t)?;
-        }
+        let MeasuredMeaning::Term(_, t) = m else {
+            return Err(refused(FaultKind::WrongSort));
+        };
+        terms.push(t)?;
     }
     Ok(terms)
 }
 
 /// An application of the function of a number, whose result has a plain sort.
 fn applied_to(
-    alloc: Global,
     number: usize,
-    args: Meanings,
+    args: MeasuredTerms,
     sort: Plain,
 ) -> Result<MeasuredMeaning, AllocError>
-    ensures { IfOk result (λ m. meaning_of m ≡ application number (meanings_of args) (plain_sort sort)) }
+    ensures { IfOk result (λ m. meaning_of m ≡ application number args (plain_sort sort)) }
 {
-    let terms = terms_of(alloc, args)?;
     Ok(term_meant(
         sort,
-        MeasuredTerm::apply(MeasuredSymbol::declared(number), terms)?,
+        MeasuredTerm::apply(MeasuredSymbol::declared(number), args)?,
     ))
 }
 
 /// An application of the function of a number, by the sort of its result.
 pub fn application(
-    alloc: Global,
     number: usize,
-    args: Meanings,
+    args: MeasuredTerms,
     result_sort: Sort,
 ) -> Result<MeasuredMeaning, AllocError>
-    ensures { IfOk result (λ m. meaning_of m ≡ application number (meanings_of args) result_sort) }
+    ensures { IfOk result (λ m. meaning_of m ≡ application number args result_sort) }
 {
     match result_sort {
         Sort::Array(index, element) => {
             Ok(MeasuredMeaning::Array(index, element, MeasuredArray::name(number)))
         }
-        Sort::Truth => applied_to(alloc, number, args, Plain::Truth),
-        Sort::Int => applied_to(alloc, number, args, Plain::Int),
-        Sort::Elem(s) => applied_to(alloc, number, args, Plain::Elem(s)),
+        Sort::Truth => applied_to(number, args, Plain::Truth),
+        Sort::Int => applied_to(number, args, Plain::Int),
+        Sort::Elem(s) => applied_to(number, args, Plain::Elem(s)),
     }
+}
+
+/// An application over arguments that were read.
+fn application_of(
+    alloc: Global,
+    number: usize,
+    result_sort: Sort,
+    args: Meanings,
+) -> Result<MeasuredMeaning, ReadError>
+    ensures { Means meaning_of result (application_of number result_sort (meanings_of args)) }
+{
+    let terms = terms_of(alloc, args)?;
+    Ok(application(number, terms, result_sort)?)
 }
 
 /// Whether there are as many arguments as places.
@@ -108,5 +120,5 @@ pub fn function_applied(
     if !have_sorts(function.args.as_slice(), args.as_slice()) {
         return Err(refused(FaultKind::WrongSort));
     }
-    Ok(application(alloc, number, args, function.result)?)
+    application_of(alloc, number, function.result, args)
 }

@@ -11,7 +11,7 @@ use mbqi_terms::{Plain, Sort};
 use mbqi_values::{FaultKind, ReadError};
 use measured_terms::{MeasuredArray, MeasuredFormula, MeasuredTerm};
 use operator_arguments::{Meanings, MeasuredMeaning, is_sort, pair, plain_sort, sole, triple};
-use smtlib_terms::refused;
+use smtlib_terms::{refused, refused_unless_deep};
 use std::alloc::Global;
 
 /// A term of a plain sort: one of sort Bool is a formula.
@@ -61,7 +61,7 @@ pub fn unbound(index: Plain, element: Plain, a: MeasuredArray) -> Result<Measure
     ensures { Means meaning_of result (unbound index element a) }
 {
     if a.has_variable() {
-        Err(refused(FaultKind::BoundArray))
+        Err(refused_unless_deep(FaultKind::BoundArray, a.depth()))
     } else {
         Ok(MeasuredMeaning::Array(index, element, a))
     }
@@ -164,10 +164,13 @@ fn default_over(
 ) -> Result<MeasuredMeaning, ReadError>
     ensures { Means meaning_of result (default_of (meaning.Array Plain.Int element array)) }
 {
-    if array.has_variable() {
-        return Err(refused(FaultKind::BoundArray));
+    let varies = array.has_variable();
+    let m = term_meant(element, MeasuredTerm::default_of(alloc, array)?);
+    if varies {
+        Err(refused_unless_deep(FaultKind::BoundArray, m.depth()))
+    } else {
+        Ok(m)
     }
-    Ok(term_meant(element, MeasuredTerm::default_of(alloc, array)?))
 }
 
 /// `default` of an array.

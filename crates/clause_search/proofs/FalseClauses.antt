@@ -5,7 +5,7 @@ use Rattle.std.proofs.lemmas.Bool.{cases_eq, ne_eqb, and_parts, and_from, or_par
 use Rattle.std.proofs.lemmas.List.Folds.{list_all-append}
 use Rattle.std.proofs.lemmas.List.Elements.{All-head, All-tail, All-contains}
 use Rattle.mbqi_values.specs.declared.lit.Lit.{Lit}
-use Rattle.clause_search.specs.Clauses.{AreBelow}
+use Rattle.mbqi_values.specs.Clauses.{AreBelow}
 use Rattle.clause_search.specs.Resolvent.{contains_lit, without, missing_in, resolvent_of}
 use Rattle.clause_search.specs.Trail.{atom_on, lit_on, is_true, is_false, is_free, true_on, false_on}
 use Rattle.clause_search.proofs.Trails.{lit_on-set_other}

@@ -5,11 +5,12 @@ use Rattle.std.specs.Option.{option_map}
 use Rattle.std.proofs.lemmas.List.Folds.{list_any-append}
 use Rattle.std.proofs.lemmas.List.Recursion.{and_at}
 use Rattle.mbqi_values.specs.declared.lit.Lit.{Lit}
-use Rattle.clause_search.specs.Clauses.{lit_true, clause_true, all_true, truth_at, Follows}
+use Rattle.clause_search.specs.Clauses.{truth_at, Follows}
 use Rattle.clause_search.specs.Resolvent.{same_lit, contains_lit, without, missing_in, resolvent_of}
 use Rattle.clause_search.specs.Trail.{atom_on, lit_on, is_true, is_false, true_on, false_on}
 use Rattle.clause_search.proofs.Trails.{lit_on-set_same, truth_at-map}
 use Rattle.clause_search.proofs.FalseClauses.{false_on-none}
+use Rattle.mbqi_values.specs.Clauses.{lit_true, clause_true, all_true}
 
 -- What follows from clauses.
 

@@ -1,13 +1,13 @@
 ghost use Rattle.std.specs.Prelude.{◌≡◌, ◌<◌, ℕ, Bool, true, false, length, map, replicate, None, Some, IfOk, IfSome, IfNone, OnSome, slice_set};
 ghost use Rattle.std.specs.List.{list_all};
-ghost use Rattle.clause_search.specs.Clauses.{all_true, truth_at, AreBelow, Follows};
+ghost use Rattle.clause_search.specs.Clauses.{truth_at, Follows};
 ghost use Rattle.clause_search.specs.Searched.{IfFound, OnClosed};
 ghost use Rattle.clause_search.specs.Trail.{atom_on, true_on, false_on, is_true};
+ghost use Rattle.mbqi_values.specs.Clauses.{all_true, AreBelow};
 
 use crate::choice::{free_lit, shortest_open};
 use crate::resolvent::{mentions, resolvent};
-use crate::{LitLists, Lits};
-use mbqi_values::{Lit, Truths};
+use mbqi_values::{Lit, LitLists, Lits, Truths};
 use std::alloc::{AllocError, Global};
 
 /// What the search answers.

@@ -3,8 +3,7 @@ ghost use Rattle.std.specs.Prelude.{◌≡◌, true, false, count_by, find, Cont
 ghost use Rattle.std.specs.List.{list_all};
 ghost use Rattle.clause_search.specs.Trail.{lit_on, is_free, true_on};
 
-use crate::Lits;
-use mbqi_values::Lit;
+use mbqi_values::{Lit, Lits};
 
 // The literal's truth on the trail.
 fn truth(trail: &[Option<bool>], lit: Lit) -> Option<bool>

@@ -10,11 +10,9 @@
 
 mod backtracking;
 mod choice;
-mod clauses;
 mod resolvent;
 
 pub use backtracking::{Searched, search_clauses};
-pub use clauses::{LitLists, Lits};
 
 #[cfg(test)]
 mod tests;

@@ -2,8 +2,7 @@ ghost use Rattle.std.specs.Prelude.{◌≡◌, ◌==◌, IfOk};
 ghost use Rattle.std.specs.List.{list_any};
 ghost use Rattle.clause_search.specs.Resolvent.{contains_lit, without, resolvent_of};
 
-use crate::Lits;
-use mbqi_values::Lit;
+use mbqi_values::{Lit, Lits};
 use std::alloc::{AllocError, Global};
 
 /// Whether a literal of the clause has this atom.

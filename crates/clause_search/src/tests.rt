@@ -1,9 +1,9 @@
 //! What no clause says: that the search answers where memory is ample.
 ghost use Rattle.std.specs.Prelude.{◌<◌, All, IfOk, OnOk};
-ghost use Rattle.clause_search.specs.Clauses.{AreBelow};
+ghost use Rattle.mbqi_values.specs.Clauses.{AreBelow};
 
 use super::*;
-use mbqi_values::Lit;
+use mbqi_values::{Lit, LitLists, Lits};
 use std::alloc::{AllocError, Global};
 use std::test::Fail;
 

@@ -10,10 +10,11 @@ use Rattle.mbqi_values.specs.declared.value.Value.TheVariants as value
 use Rattle.mbqi_terms.specs.declared.sort.Sort.{Sort}
 use Rattle.mbqi_terms.specs.declared.term_id.TermId.{TermId}
 use Rattle.function_model.specs.Fits.{RiseFrom, AreKnots, HaveKnots, StandOn}
-use Rattle.function_model.specs.Lookup.{is_same, projected, is_at}
+use Rattle.function_model.specs.Lookup.{projected, is_at}
 use Rattle.ground_form.specs.Profile.{the_sort}
 use Rattle.element_models.specs.Elements.{elements_from, knots_of}
 use Rattle.element_models.specs.Rows.{element_of}
+use Rattle.mbqi_values.specs.Value.{is_same}
 
 -- the next element
 pub elements_next : (e size : ℕ) → e < size → elements_from e (size - e) ≡ value.Elem e ∷ elements_from (e + 1) (size - (e + 1))

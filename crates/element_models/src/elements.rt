@@ -6,8 +6,8 @@ ghost use Rattle.element_models.specs.Elements.{elements_from, knots_of, bare_ta
 
 use function_model::{Rows, Table, TableName, ValueLists};
 use ground_form::Pool;
-use mbqi_terms::{Function, Sort, Values};
-use mbqi_values::{Sequence, Sizes, Value};
+use mbqi_terms::{Function, Sort};
+use mbqi_values::{Sequence, Sizes, Value, Values};
 use std::alloc::{AllocError, Global};
 
 /// The size for each sort.

@@ -23,10 +23,10 @@ pub record AreVariables (binders : List Binder) : Type 0 where
   pub some : 1 ≤ length binders
   pub all : binders ≡ variables_from 0 (length binders)
 
--- One sort at most, and no function without it.
+-- One sort at most, and no function and no assertion without it.
 pub record HasOneSort (script : Script) : Type 0 where
   pub sorts : length script.sorts ≤ 1
-  pub named : script.sorts ≡ [] → script.functions ≡ []
+  pub named : script.sorts ≡ [] → (script.functions ≡ []) × (script.assertions ≡ [])
 
 -- The sorts and functions of the profile.
 abbrev pub AreDeclarations : Script → Type 0

@@ -8,12 +8,12 @@ use crate::functions::are_functions;
 use crate::rules::are_rules;
 use mbqi_terms::Script;
 
-/// Whether there is one sort at most, and no function without it.
+/// Whether there is one sort at most, and no function and no assertion without it.
 fn has_one_sort(script: &Script) -> bool
     ensures { IsTrue result ↔ HasOneSort script.now }
 {
     match script.sorts.len() {
-        0 => script.functions.is_empty(),
+        0 => script.functions.is_empty() && script.assertions.is_empty(),
         sorts => sorts == 1,
     }
 }

@@ -16,7 +16,7 @@ use Rattle.smtlib_terms.specs.Operators.{as_formula, at_most, below, unquantifie
 -- `ite` of three meanings that are formulas.
 abbrev pub chosen_of : Meaning → Meaning → Meaning → Result Formula FaultKind
 chosen_of c m n =
-    as_formula c >>= (λ f. as_formula m >>= (λ g. as_formula n >>= (λ h. unquantified (f ∷ []) (Ok (formula.Choose f g h)))))
+    as_formula c >>= (λ f. as_formula m >>= (λ g. as_formula n >>= (λ h. unquantified (f ∷ []) (formula.Choose f g h))))
 
 -- The relation of two integers that a word names.
 abbrev pub order_of : Word → Term → Term → Formula

@@ -1,9 +1,12 @@
 //! The connectives of SMT-LIB 2.6's theory Core.
 
-ghost use Rattle.std.specs.Prelude.{◌≡◌, ◌++◌, [], ◌∷◌, IfOk, Ok};
+ghost use Rattle.std.specs.Prelude.{◌≡◌, ◌++◌, [], ◌∷◌, IfOk, Ok, Err, if◌then◌else◌};
 ghost use Rattle.std.specs.List.{list_any};
 ghost use Rattle.smtlib_terms.specs.Answers.{Answers};
-ghost use Rattle.smtlib_terms.specs.Meaning.{is_quantified};
+ghost use Rattle.mbqi_terms.specs.Binders.{is_quantified};
+ghost use Rattle.mbqi_values.specs.declared.fault.FaultKind.TheVariants.{QuantifierPlace};
+ghost use Rattle.mbqi_terms.specs.Depth.{depth_of_formula};
+ghost use Rattle.smtlib_terms.specs.Meaning.{unless_deep};
 ghost use Rattle.smtlib_terms.specs.Operators.{choice, connective, exclusion, exclusion_of, implication, implication_of, is_other_choice, joined, negated, unlike};
 ghost use Rattle.operator_arguments.specs.Measured.{meaning_of, meanings_of};
 ghost use Rattle.formula_operators.specs.Steps.{chosen_of};
@@ -14,7 +17,7 @@ use measured_terms::{MeasuredFormula, MeasuredFormulas};
 use operator_arguments::{
     Meanings, MeasuredMeaning, Queue, are_at_least, as_formulas, is_sort, sole, triple,
 };
-use smtlib_terms::refused;
+use smtlib_terms::{refused, refused_unless_deep};
 use std::alloc::{AllocError, Global};
 
 /// Formulas with their common measures.
@@ -149,6 +152,20 @@ fn any_quantified(formulas: &[MeasuredFormula]) -> bool
     formulas.iter().any(|f| f.is_quantified())
 }
 
+/// What is made of formulas, in some of which no quantifier may stand, although one does where `is_quantified`.
+pub fn unquantified(
+    is_quantified: bool,
+    made: MeasuredFormula,
+) -> Result<MeasuredFormula, ReadError>
+    ensures { Answers result (if is_quantified then Err (unless_deep QuantifierPlace (depth_of_formula made)) else Ok made) }
+{
+    if is_quantified {
+        Err(refused_unless_deep(FaultKind::QuantifierPlace, made.depth()))
+    } else {
+        Ok(made)
+    }
+}
+
 /// `xor` of formulas from left to right.
 fn exclusions(
     alloc: Global,
@@ -177,10 +194,8 @@ fn exclusion_of(
     match others.next() {
         None => Err(refused(FaultKind::WrongCount)),
         Some(first) => {
-            if is_quantified {
-                return Err(refused(FaultKind::QuantifierPlace));
-            }
-            Ok(exclusions(alloc, first, others)?)
+            let joined = exclusions(alloc, first, others)?;
+            unquantified(is_quantified, joined)
         }
     }
 }
@@ -232,8 +247,7 @@ fn chosen(
     let Some(otherwise) = n.into_formula() else {
         return Err(refused(FaultKind::WrongSort));
     };
-    if condition.is_quantified() {
-        return Err(refused(FaultKind::QuantifierPlace));
-    }
-    Ok(MeasuredFormula::choose(alloc, condition, then, otherwise)?)
+    let is_quantified = condition.is_quantified();
+    let choice = MeasuredFormula::choose(alloc, condition, then, otherwise)?;
+    unquantified(is_quantified, choice)
 }

@@ -10,4 +10,4 @@ mod sums;
 
 pub use connectives::{choice, conjunction, disjunction, exclusion, implication, negated};
 pub use relations::{distinct, equal, order};
-pub use sums::{addition, moved_by, number_of, subtraction};
+pub use sums::{addition, is_wide, moved_by, number_of, subtraction};

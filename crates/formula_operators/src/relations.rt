@@ -7,7 +7,7 @@ ghost use Rattle.smtlib_terms.specs.Operators.{at_least, below, chain, compared_
 ghost use Rattle.operator_arguments.specs.Measured.{meaning_of, meanings_of};
 ghost use Rattle.formula_operators.specs.Steps.{order_of};
 
-use crate::connectives::all_of;
+use crate::connectives::{all_of, unquantified};
 use mbqi_terms::Sort;
 use mbqi_values::{FaultKind, ReadError};
 use measured_terms::{MeasuredFormula, MeasuredFormulas, MeasuredTerm};
@@ -147,10 +147,8 @@ pub fn equal(alloc: Global, args: &[MeasuredMeaning]) -> Result<MeasuredFormula,
     if !have_one_sort(args) {
         return Err(refused(FaultKind::WrongSort));
     }
-    if any_quantified(args) {
-        return Err(refused(FaultKind::QuantifierPlace));
-    }
-    Ok(all_of(equalities(alloc, args)?)?)
+    let made = all_of(equalities(alloc, args)?)?;
+    unquantified(any_quantified(args), made)
 }
 
 /// `distinct` of at least two meanings of one sort, without quantifiers.
@@ -163,10 +161,8 @@ pub fn distinct(alloc: Global, args: &[MeasuredMeaning]) -> Result<MeasuredFormu
     if !have_one_sort(args) {
         return Err(refused(FaultKind::WrongSort));
     }
-    if any_quantified(args) {
-        return Err(refused(FaultKind::QuantifierPlace));
-    }
-    Ok(all_of(inequalities(alloc, args)?)?)
+    let made = all_of(inequalities(alloc, args)?)?;
+    unquantified(any_quantified(args), made)
 }
 
 /// `<` of two integers.

@@ -3,10 +3,11 @@
 
 ghost use Rattle.std.specs.Prelude.{◌≡◌, ◌∷◌, ◌+ℤ◌, ◌-ℤ◌, ◌-◌, ◌^◌, pos, map, IfOk, OnOk};
 ghost use Rattle.smtlib_terms.specs.Answers.{Answers};
-ghost use Rattle.smtlib_terms.specs.Number.{bases_of, difference, is_within, less, negation, plus_number, sum_of, summed, summed_beside, total_of};
-ghost use Rattle.smtlib_terms.specs.Operators.{addition, moved_by, subtracted, subtraction};
+ghost use Rattle.smtlib_terms.specs.Number.{bases_of, difference, less, negation, plus_number, sum_of, summed, summed_beside, total_of, limit_of, term_of};
+ghost use Rattle.smtlib_terms.specs.Operators.{addition, moved_by, subtracted, subtraction, is_wide_term};
 ghost use Rattle.operator_arguments.specs.Measured.{Means, meaning_of, meanings_of, side_of};
 ghost use Rattle.formula_operators.specs.Steps.{bases_with, is_difference, number_of};
+ghost use Rattle.mbqi_terms.specs.Limits.{is_within};
 
 use mbqi_terms::{Sort, Term};
 use mbqi_values::{FaultKind, ReadError, Sequence};
@@ -14,7 +15,7 @@ use measured_terms::{MeasuredSum, MeasuredTerm};
 use operator_arguments::{
     Meanings, MeasuredMeaning, MeasuredSide, Queue, are_at_least, as_integers,
 };
-use smtlib_terms::refused;
+use smtlib_terms::{refused, refused_unless_deep};
 use std::alloc::{AllocError, Global};
 
 /// The sum of two numbers. Those of terms are within 2^63, so that only a sum of 2^64 terms could be past the type's
@@ -57,25 +58,36 @@ fn plus_number(alloc: Global, t: MeasuredTerm, n: i128) -> Result<MeasuredTerm, 
     }
 }
 
+/// The term of a sum, whatever its number is.
+fn term_of(alloc: Global, base: Option<MeasuredTerm>, n: i128) -> Result<MeasuredTerm, AllocError>
+    ensures { IfOk result (λ t. t ≡ term_of base n) }
+{
+    match base {
+        None => Ok(MeasuredTerm::number(n)),
+        Some(t) => plus_number(alloc, t, n),
+    }
+}
+
+/// Whether the number of a sum is within its limit.
+fn is_within(base: &Option<MeasuredTerm>, n: i128) -> bool
+    ensures { result ≡ is_within (limit_of base.now) n }
+{
+    match base {
+        None => is_numeral_number(n),
+        Some(_) => is_offset(n),
+    }
+}
+
 /// The term of a sum whose number is within its limit.
 fn summed(alloc: Global, base: Option<MeasuredTerm>, n: i128) -> Result<MeasuredTerm, ReadError>
     ensures { Answers result (summed base n) }
 {
-    match base {
-        None => {
-            if is_numeral_number(n) {
-                Ok(MeasuredTerm::number(n))
-            } else {
-                Err(refused(FaultKind::OffsetTooWide))
-            }
-        }
-        Some(t) => {
-            if is_offset(n) {
-                Ok(plus_number(alloc, t, n)?)
-            } else {
-                Err(refused(FaultKind::OffsetTooWide))
-            }
-        }
+    let is_within = is_within(&base, n);
+    let t = term_of(alloc, base, n)?;
+    if is_within {
+        Ok(t)
+    } else {
+        Err(refused_unless_deep(FaultKind::OffsetTooWide, t.depth()))
     }
 }
 
@@ -247,11 +259,23 @@ pub fn subtraction(alloc: Global, args: Meanings) -> Result<MeasuredSide, ReadEr
     subtracted(alloc, as_integers(alloc, args)?)
 }
 
-/// A term moved by a number.
-pub fn moved_by(alloc: Global, t: MeasuredTerm, n: i128) -> Result<MeasuredMeaning, ReadError>
-    ensures { Means meaning_of result (moved_by t n) }
+/// A term moved by a number, also past the limit.
+pub fn moved_by(alloc: Global, t: MeasuredTerm, n: i128) -> Result<MeasuredMeaning, AllocError>
+    ensures { IfOk result (λ m. meaning_of m ≡ moved_by t n) }
 {
     let sum = t.into_sum();
-    let moved = summed(alloc, sum.base, plus(sum.number, n)?)?;
+    let moved = term_of(alloc, sum.base, plus(sum.number, n)?)?;
     Ok(integer(moved))
+}
+
+/// Whether the number of an integer is past its limit.
+pub fn is_wide(t: &MeasuredTerm) -> bool
+    ensures { result ≡ is_wide_term t.now }
+{
+    match t.as_term() {
+        Term::Num(n) => !is_numeral_number(*n),
+        Term::Plus(_, n) => !is_offset(*n),
+        Term::Var(_) | Term::Truth(_) | Term::Apply(_, _) | Term::Read(_, _) | Term::Default(_) =>
+            false,
+    }
 }

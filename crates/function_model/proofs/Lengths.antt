@@ -1,7 +1,8 @@
 -- Places of another number than knots or arguments aren't theirs.
 use Rattle.std.proofs.Common.{◌≡◌, suc, Bool, true, false, ◌&&◌, List, [], ◌∷◌, length, refl, ap}
 use Rattle.mbqi_values.specs.declared.value.Value.{Value}
-use Rattle.function_model.specs.Lookup.{is_at, is_same, projected}
+use Rattle.function_model.specs.Lookup.{is_at, projected}
+use Rattle.mbqi_values.specs.Value.{is_same}
 
 both_false : (a b : Bool) → b ≡ false → (a && b) ≡ false
 both_false true b h = h

@@ -4,9 +4,10 @@ use Rattle.std.proofs.lemmas.Bool.{and_parts}
 use Rattle.std.proofs.lemmas.List.Elements.{All-nil, All-cons, All-contains}
 use Rattle.mbqi_values.specs.declared.value.Value.{Value}
 use Rattle.function_model.specs.declared.model.Row.{Row}
-use Rattle.function_model.specs.Lookup.{is_same, projected, is_at, value_at}
+use Rattle.function_model.specs.Lookup.{projected, is_at, value_at}
 use Rattle.function_model.specs.Rising.{AgreeAtSamePlaces}
 use Rattle.function_model.proofs.PlaceRanks.{same_value}
+use Rattle.mbqi_values.specs.Value.{is_same}
 
 -- the arguments' knots
 abbrev knots_of : List (List Value) → List Value → List Value

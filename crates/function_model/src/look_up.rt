@@ -2,11 +2,11 @@
 
 ghost use Rattle.std.specs.Prelude.{◌≡◌};
 ghost use Rattle.std.specs.List.{list_any};
-ghost use Rattle.function_model.specs.Lookup.{is_same, greatest_up_to, projected, is_at, value_at, looked_up_in};
+ghost use Rattle.function_model.specs.Lookup.{greatest_up_to, projected, is_at, value_at, looked_up_in};
+ghost use Rattle.mbqi_values.specs.Value.{is_same};
 
 use crate::model::{Row, Table};
-use mbqi_terms::Values;
-use mbqi_values::Value;
+use mbqi_values::{Value, Values};
 use std::cmp::Ordering;
 
 impl Table {

@@ -1,5 +1,5 @@
-use mbqi_terms::{ArrayTerm, Values};
-use mbqi_values::{Sequence, Sizes, Value};
+use mbqi_terms::ArrayTerm;
+use mbqi_values::{Sequence, Sizes, Value, Values};
 
 /// The rows of a table, rising by their places.
 pub type Rows = Sequence<Row>;

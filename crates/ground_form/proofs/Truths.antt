@@ -3,9 +3,9 @@ use Rattle.std.proofs.Common.{◌≡◌, ℕ, zero, suc, ◌<◌, inl, inr, Bool
 use Rattle.std.specs.List.{All, AllZip, list_any, list_all}
 use Rattle.std.proofs.Math.Bool.{or-false}
 use Rattle.std.proofs.lemmas.Option.{slice_get_within, get_or_from_slice_get}
-use Rattle.clause_search.specs.Clauses.{lit_true, clause_true, all_true, AreBelow}
-use Rattle.function_model.specs.TruthOf.{Meanings, truth_of, truth_layer}
-use Rattle.function_model.specs.ValueOf.{is_true}
+use Rattle.mbqi_values.specs.Clauses.{lit_true, clause_true, all_true, AreBelow}
+use Rattle.mbqi_terms.specs.Meanings.{Meanings, truth_of, truth_layer}
+use Rattle.mbqi_values.specs.Value.{is_true}
 use Rattle.mbqi_values.specs.declared.lit.Lit.{Lit}
 use Rattle.mbqi_terms.specs.declared.formula.Formula as formulas
 use Rattle.mbqi_terms.specs.declared.formula.Formula.{Formula, out-Formula}

@@ -1,8 +1,8 @@
 -- Ground atoms by the numbers of their arguments in a pool of ground terms (this project's own).
 use Rattle.std.specs.Prelude.{◌≡◌, ℕ, ◌<◌, ◌==◌, Bool, true, false, ◌&&◌, List, [], ◌∷◌, ◌++◌, length, map, All, Contains, Some, slice_get, slice_index, slice_index_or, if◌then◌else◌}
 use Rattle.mbqi_values.specs.declared.value.Value.TheVariants.{Truth}
-use Rattle.function_model.specs.TruthOf.{Meanings}
-use Rattle.function_model.specs.ValueOf.{is_true}
+use Rattle.mbqi_terms.specs.Meanings.{Meanings}
+use Rattle.mbqi_values.specs.Value.{is_true}
 use Rattle.mbqi_terms.specs.Store.{tree_at}
 use Rattle.mbqi_terms.specs.declared.formula.Formula.{Formula}
 use Rattle.mbqi_terms.specs.declared.instance.InstanceLine.{InstanceLine}

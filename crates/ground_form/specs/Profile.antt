@@ -86,10 +86,11 @@ for_all (suc n) f = formula.Forall (variables_from 0 (suc n)) f
 abbrev pub IsRule : List Function → Formula → Type 0
 IsRule functions f = (variables : ℕ) × (clause : Formula) × (f ≡ for_all variables clause) × IsClause functions (IsArgument functions variables) clause
 
--- A script of the profile: at most one sort, constants and predicates over it, and clauses for all values of their variables.
+-- A script of the profile: at most one sort, constants and predicates over it, and clauses for all values of their variables. Without a sort
+-- it says nothing.
 pub record IsElementary (script : Script) : Type 0 where
   pub sorts : length script.sorts ≤ 1
-  pub named : script.sorts ≡ [] → script.functions ≡ []
+  pub named : script.sorts ≡ [] → (script.functions ≡ []) × (script.assertions ≡ [])
   pub functions : AllByRecursion (λ function. IsConstant function ⊎ IsPredicate function) script.functions
   pub assertions : AllByRecursion (λ assertion. IsRule script.functions assertion.formula) script.assertions
 

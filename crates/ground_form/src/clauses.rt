@@ -2,8 +2,8 @@
 
 ghost use Rattle.std.specs.Prelude.{◌≡◌, length, slice_get, Some, All, IfOk};
 ghost use Rattle.std.specs.List.{AllZip, list_all};
-ghost use Rattle.clause_search.specs.Clauses.{all_true, AreBelow};
-ghost use Rattle.function_model.specs.TruthOf.{Meanings, truth_of};
+ghost use Rattle.mbqi_values.specs.Clauses.{all_true, AreBelow};
+ghost use Rattle.mbqi_terms.specs.Meanings.{Meanings, truth_of};
 ghost use Rattle.mbqi_terms.specs.declared.term.Symbol.TheVariants as symbol;
 ghost use Rattle.mbqi_terms.specs.declared.term.Term.TheVariants as term;
 ghost use Rattle.ground_form.specs.Atoms.{truths_by, formulas_in, IsOver, IsPool};
@@ -12,9 +12,8 @@ ghost use Rattle.ground_form.specs.Profile.{IsClause, IsLiteral, IsAtom, IsGroun
 
 use crate::atoms::{AtomTable, GroundAtom};
 use crate::pool::Pool;
-use clause_search::{LitLists, Lits};
 use mbqi_terms::{Formula, Function, InstanceLine, Symbol, Term, TermIds};
-use mbqi_values::Lit;
+use mbqi_values::{Lit, LitLists, Lits};
 use std::alloc::{AllocError, Global};
 
 /// The clauses of the formulas of instances over the pool of the functions, one for each instance in order. Their atoms are numbered

@@ -3,7 +3,7 @@ use Rattle.std.proofs.Common.{◌≡◌, ℕ, ◌<◌, Bool, not, List, [], ◌�
 use Rattle.std.specs.Prelude.{All}
 use Rattle.std.proofs.lemmas.List.Elements.{All-head, All-tail}
 use Rattle.mbqi_values.specs.declared.lit.Lit.{Lit}
-use Rattle.clause_search.specs.Clauses.{lit_true, clause_true, all_true, AreBelow}
+use Rattle.mbqi_values.specs.Clauses.{lit_true, clause_true, all_true, AreBelow}
 
 abbrev pub Agree : ℕ → (ℕ → Bool) → (ℕ → Bool) → Type 0
 Agree n v w = (i : ℕ) → i < n → v i ≡ w i

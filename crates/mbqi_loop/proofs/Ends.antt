@@ -7,7 +7,7 @@ use Rattle.std.proofs.lemmas.List.Elements.{All-contains_itself, Contains-append
 use Rattle.mbqi_terms.specs.declared.instance.InstanceLine.{InstanceLine}
 use Rattle.mbqi_terms.specs.declared.script.Script.{Script}
 use Rattle.function_model.specs.Shown.{shown_of}
-use Rattle.function_model.specs.TruthOf.{Meanings, truth_of}
+use Rattle.mbqi_terms.specs.Meanings.{Meanings, truth_of}
 use Rattle.ground_form.specs.Atoms.{formulas_in}
 use Rattle.rule_form.specs.Rules.{count}
 use Rattle.rule_form.specs.declared.choice.Choice.{Choice}

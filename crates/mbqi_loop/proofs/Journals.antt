@@ -11,7 +11,7 @@ use Rattle.mbqi_terms.specs.declared.script.Assertion.{Assertion}
 use Rattle.mbqi_terms.specs.declared.script.Script.{Script}
 use Rattle.mbqi_terms.proofs.Places.{all_at}
 use Rattle.function_model.specs.Holds.{values_in}
-use Rattle.function_model.specs.TruthOf.{Meanings, truth_of}
+use Rattle.mbqi_terms.specs.Meanings.{Meanings, truth_of}
 use Rattle.ground_form.specs.Atoms.{formulas_in}
 use Rattle.rule_form.specs.Rules.{IsChoice, line_of, lines_of}
 use Rattle.rule_form.specs.declared.choice.Choice.{Choice}

@@ -6,12 +6,12 @@ use Rattle.std.proofs.lemmas.List.{get_or-take, length-take, map-append}
 use Rattle.std.proofs.lemmas.List.Elements.{All-append, All-weaker}
 use Rattle.std.proofs.lemmas.List.Folds.{list_all-append}
 use Rattle.mbqi_values.specs.declared.lit.Lit.{Lit}
-use Rattle.clause_search.specs.Clauses.{all_true, clause_true, AreBelow}
+use Rattle.mbqi_values.specs.Clauses.{all_true, clause_true, AreBelow}
 use Rattle.mbqi_terms.specs.declared.instance.InstanceLine.{InstanceLine}
 use Rattle.mbqi_terms.specs.declared.script.Function.{Function}
 use Rattle.mbqi_terms.specs.declared.term.Term.{Term}
-use Rattle.function_model.specs.TruthOf.{Meanings, truth_of}
-use Rattle.function_model.specs.ValueOf.{is_true}
+use Rattle.mbqi_terms.specs.Meanings.{Meanings, truth_of}
+use Rattle.mbqi_values.specs.Value.{is_true}
 use Rattle.ground_form.specs.Atoms.{IsOver, atom_tree, formulas_in, truths_by}
 use Rattle.ground_form.specs.Numbering.{Extends}
 use Rattle.ground_form.specs.declared.atoms.GroundAtom.{GroundAtom}

@@ -9,19 +9,19 @@ use Rattle.mbqi_terms.specs.declared.formula.Formula.{Formula}
 use Rattle.mbqi_terms.specs.declared.formula.Formula.TheVariants as formula
 use Rattle.mbqi_terms.specs.declared.script.Function.{Function}
 use Rattle.mbqi_terms.specs.declared.term.Symbol.TheVariants as symbol
-use Rattle.mbqi_terms.specs.declared.term.Term as terms
 use Rattle.mbqi_terms.specs.declared.term.Term.{Term}
 use Rattle.mbqi_terms.specs.declared.term.Term.TheVariants as term
 use Rattle.function_model.specs.Holds.{nowhere, values_in}
 use Rattle.function_model.specs.Lookup.{is_declared, looked_up, table_where}
-use Rattle.function_model.specs.TruthOf.{truth_of}
-use Rattle.function_model.specs.ValueOf.{Point, is_true, value_of}
+use Rattle.mbqi_terms.specs.Meanings.{truth_of}
+use Rattle.function_model.specs.ValueOf.{Point, value_of}
 use Rattle.function_model.specs.declared.model.FunctionModel.{FunctionModel}
 use Rattle.ground_form.specs.Profile.{IsArgument, IsAtom, IsClause, IsLiteral}
-use Rattle.rule_form.specs.Substitution.{put_into, put_into_formula}
+use Rattle.mbqi_values.specs.Value.{is_true}
 use Rattle.rule_form.proofs.Putting.{put_any, put_apply, put_atom, put_constant, put_not, put_variable}
-use Rattle.mbqi_loop.proofs.Atoms.{value_apply}
+use Rattle.function_model.proofs.Values.{value_apply, value_variable}
 use Rattle.mbqi_loop.proofs.Holding.{truth_any, truth_atom, truth_not, values_at}
+use Rattle.mbqi_terms.specs.Substitution.{put_into, put_into_formula}
 
 -- arguments are replaced, and the rest of a clause is as before
 pub record Replaces (put : Term → Term) (put_formula : Formula → Formula) : Type 0 where
@@ -44,10 +44,6 @@ nothing_put = record {
   negation = λ f. refl;
   any = λ fs. ap formula.Any (itself fs);
 }
-
-value_variable : (m : FunctionModel) (p : Point) (place : ℕ) → value_of m (term.Var place) p ≡ p place
-unfolding value_of
-value_variable m p place = search (rules, terms.the_lemmas)
 
 -- the point has the values of the terms
 module _ (functions : List Function) (shown model : FunctionModel) (p : Point)

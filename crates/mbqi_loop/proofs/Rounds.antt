@@ -13,10 +13,10 @@ use Rattle.mbqi_terms.specs.declared.script.Script.{Script}
 use Rattle.mbqi_terms.specs.declared.term.Term.{Term}
 use Rattle.mbqi_terms.specs.declared.term.Term.TheVariants as term
 use Rattle.mbqi_terms.specs.declared.term_id.TermId.{TermId}
-use Rattle.clause_search.specs.Clauses.{all_true, truth_at}
+use Rattle.clause_search.specs.Clauses.{truth_at}
 use Rattle.function_model.specs.Holds.{IsOf, nowhere}
-use Rattle.function_model.specs.TruthOf.{Meanings, truth_of}
-use Rattle.function_model.specs.ValueOf.{is_true, value_of}
+use Rattle.mbqi_values.specs.Clauses.{all_true}
+use Rattle.function_model.specs.ValueOf.{value_of}
 use Rattle.function_model.specs.declared.model.FunctionModel.{FunctionModel}
 use Rattle.ground_form.specs.Atoms.{Decides, IsPool, formulas_in, truths_by}
 use Rattle.ground_form.specs.Profile.{IsElementary, the_sort}
@@ -26,6 +26,8 @@ use Rattle.mbqi_loop.specs.Listed.{IsListed}
 use Rattle.mbqi_loop.specs.declared.listed.Listed.{Listed}
 use Rattle.mbqi_loop.proofs.Agreement.{clauses_agree}
 use Rattle.mbqi_loop.proofs.Rules.{IsNamed}
+use Rattle.mbqi_terms.specs.Meanings.{Meanings, truth_of}
+use Rattle.mbqi_values.specs.Value.{is_true}
 
 -- where the truths that were found are those of the model, each listed instance is true in it
 pub listed_true : (functions : List Function) (terms : List Term) (listed : Listed) (truths : List Bool) (m : Meanings)

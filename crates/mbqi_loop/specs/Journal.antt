@@ -8,12 +8,13 @@ use Rattle.mbqi_terms.specs.declared.script.Script.{Script}
 use Rattle.function_model.specs.Fits.{FitsFull}
 use Rattle.function_model.specs.Holds.{values_in}
 use Rattle.function_model.specs.Shown.{shown_of}
-use Rattle.function_model.specs.TruthOf.{Meanings, truth_of}
+use Rattle.mbqi_terms.specs.Meanings.{Meanings, truth_of}
 use Rattle.function_model.specs.declared.model.FunctionModel.{FunctionModel}
 use Rattle.ground_form.specs.Atoms.{formulas_in}
 use Rattle.rule_form.specs.Rules.{IsChoice, IsOpen, first_from, line_of, lines_of}
 use Rattle.rule_form.specs.declared.choice.Choice.{Choice}
-use Rattle.mbqi_loop.specs.Lawful.{IsPlainlyLawful}
+use Rattle.mbqi_terms.specs.Lawful.{IsPlainlyLawful}
+use Rattle.mbqi_terms.specs.ScriptLists.{lists_of}
 use Rattle.mbqi_loop.specs.Refuted.{StandsIn}
 use Rattle.mbqi_loop.specs.declared.outcome.Outcome.{Outcome}
 use Rattle.mbqi_loop.specs.declared.outcome.Outcome.TheVariants.{Sat, Unsat}
@@ -58,7 +59,7 @@ pub record EndsWithModel (script : Script) (journal : List Round) (model : Funct
 pub record EndsRefuted (script : Script) (journal : List Round) (shown : List InstanceLine) : Type 0 where
   pub lines : List InstanceLine
   pub lead : Lead script (first_lines script) journal lines
-  pub refuted : (m : Meanings) → IsPlainlyLawful script.functions (StandsIn lines) m → list_all (truth_of m) (formulas_in lines) ≡ false
+  pub refuted : (m : Meanings) → IsPlainlyLawful (lists_of script) (StandsIn lines) m → list_all (truth_of m) (formulas_in lines) ≡ false
   pub listed : All (λ line. Contains lines line) shown
 
 abbrev pub IsJournal : Script → Outcome → Type 0

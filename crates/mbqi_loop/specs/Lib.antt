@@ -1,4 +1,3 @@
-pub mod Lawful
 pub mod Refuted
 pub mod Outcome
 pub mod Journal

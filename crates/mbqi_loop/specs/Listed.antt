@@ -1,10 +1,10 @@
 -- The listed instances beside their clauses (this project's own).
 use Rattle.std.specs.Prelude.{◌≡◌, List, length, All}
 use Rattle.std.specs.List.{list_all}
-use Rattle.clause_search.specs.Clauses.{all_true, AreBelow}
+use Rattle.mbqi_values.specs.Clauses.{all_true, AreBelow}
 use Rattle.mbqi_terms.specs.declared.script.Function.{Function}
 use Rattle.mbqi_terms.specs.declared.term.Term.{Term}
-use Rattle.function_model.specs.TruthOf.{Meanings, truth_of}
+use Rattle.mbqi_terms.specs.Meanings.{Meanings, truth_of}
 use Rattle.ground_form.specs.Atoms.{IsOver, formulas_in, truths_by}
 use Rattle.mbqi_loop.specs.declared.listed.Listed.{Listed}
 

@@ -5,10 +5,9 @@ ghost use Rattle.ground_form.specs.Atoms.{IsPool, formulas_in};
 ghost use Rattle.ground_form.specs.Profile.{IsClause, IsGround};
 ghost use Rattle.mbqi_loop.specs.Listed.{IsListed};
 
-use clause_search::LitLists;
 use ground_form::{AtomTable, Pool, clauses_of};
 use mbqi_terms::{Function, InstanceLines};
-use mbqi_values::Sequence;
+use mbqi_values::{LitLists, Sequence};
 use std::alloc::{AllocError, Global};
 
 /// Instances, with their clauses over numbered atoms.

@@ -9,7 +9,7 @@ use Rattle.mbqi_terms.specs.declared.term.ArrayTerm.TheOpen.{Symbol-F, Term-F}
 use Rattle.mbqi_terms.specs.declared.term.Symbol.{Symbol, out-Symbol}
 use Rattle.mbqi_terms.specs.declared.term.Term.{Term, out-Term}
 use Rattle.mbqi_terms.specs.declared.term.Term.TheVariants as term
-use Rattle.mbqi_terms.specs.Form.{Suits, FitPlaces, IsListed, IsLayerInForm, IsTermInForm}
+use Rattle.mbqi_terms.specs.Form.{Suits, FitPlaces, IsPairListed, IsLayerInForm, IsTermInForm}
 use Rattle.mbqi_terms.specs.Lists.{symbol_layer_places, sum_sort}
 use Rattle.mbqi_terms.specs.Tree.{Layer, IsPart}
 use Rattle.mbqi_terms.proofs.Levels.{out-num, out-plus, out-var, out-apply, out-read, out-default}
@@ -22,7 +22,7 @@ module _ (l : Lists) where
   AreChildrenInForm (Term-F.Read a u) = IsTermInForm l u
   AreChildrenInForm layer = Unit {0}
 
-  by_level : (t : Term) (x : Layer) → out-Term t ≡ x → IsLayerInForm l x → AreChildrenInForm x → IsTermInForm l t
+  pub by_level : (t : Term) (x : Layer) → out-Term t ≡ x → IsLayerInForm l x → AreChildrenInForm x → IsTermInForm l t
   by_level t x e level children part (IsPart.itself u) = subst (IsLayerInForm l) (sym e) level
   by_level t x e level children part (IsPart.of_sum p u v n s inside) =
       let own : AreChildrenInForm (out-Term t) = subst AreChildrenInForm (sym e) children in
@@ -50,20 +50,20 @@ module _ (l : Lists) where
   no_arguments u c = absurd (omega (arith, c.1))
 
   pub constant_in_form : (f : Symbol) (x : Symbol-F ArrayTerm Symbol Term) → out-Symbol f ≡ x → FitPlaces l (symbol_layer_places l x) []
-      → IsListed l x → IsTermInForm l (term.Apply f [])
+      → IsPairListed l x → IsTermInForm l (term.Apply f [])
   constant_in_form f x e fit listed =
       by_level (term.Apply f []) (Term-F.Apply f []) (out-apply f [])
-      (subst (λ y. FitPlaces l (symbol_layer_places l y) [] × IsListed l y) (sym e) (fit, listed)) no_arguments
+      (subst (λ y. FitPlaces l (symbol_layer_places l y) [] × IsPairListed l y) (sym e) (fit, listed)) no_arguments
 
   one_argument : (t u : Term) → IsTermInForm l t → Contains (t ∷ []) u → IsTermInForm l u
   one_argument t u form (zero, within, e) = subst (IsTermInForm l) e form
   one_argument t u form (suc k, within, e) = absurd (omega (arith, within))
 
   pub call_in_form : (f : Symbol) (x : Symbol-F ArrayTerm Symbol Term) (t : Term) → out-Symbol f ≡ x
-      → FitPlaces l (symbol_layer_places l x) (t ∷ []) → IsListed l x → IsTermInForm l t → IsTermInForm l (term.Apply f (t ∷ []))
+      → FitPlaces l (symbol_layer_places l x) (t ∷ []) → IsPairListed l x → IsTermInForm l t → IsTermInForm l (term.Apply f (t ∷ []))
   call_in_form f x t e fit listed form =
       by_level (term.Apply f (t ∷ [])) (Term-F.Apply f (t ∷ [])) (out-apply f (t ∷ []))
-      (subst (λ y. FitPlaces l (symbol_layer_places l y) (t ∷ []) × IsListed l y) (sym e) (fit, listed))
+      (subst (λ y. FitPlaces l (symbol_layer_places l y) (t ∷ []) × IsPairListed l y) (sym e) (fit, listed))
       (λ u among. one_argument t u form among)
 
   pub read_in_form : (a : ArrayTerm) (t : Term) → IsLayerInForm l (Term-F.Read a t) → IsTermInForm l t → IsTermInForm l (term.Read a t)

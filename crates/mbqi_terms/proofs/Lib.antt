@@ -8,9 +8,11 @@ pub mod NodeTest
 pub mod Options
 pub mod Places
 pub mod Putting
+pub mod Rows
 pub mod SampleForms
 pub mod Shifts
 pub mod Sorted
+pub mod StoreForm
 pub mod Sums
 pub mod Trees
 pub mod Zips

@@ -17,7 +17,7 @@ use Rattle.mbqi_terms.specs.declared.term.Symbol.TheVariants as symbol
 use Rattle.mbqi_terms.specs.declared.term.Term.{Term, out-Term, roll-Term}
 use Rattle.mbqi_terms.specs.declared.term.Term.TheVariants as term
 use Rattle.mbqi_terms.specs.declared.term_id.TermId.{TermId}
-use Rattle.mbqi_terms.specs.Form.{IsLayerInForm, IsTermInForm, IsListed}
+use Rattle.mbqi_terms.specs.Form.{IsLayerInForm, IsTermInForm, IsPairListed}
 use Rattle.mbqi_terms.specs.Store.{Store, IsSound, IsNode, Interns, HasTree, IsHeadOf, HasNoHead, Extends, Grows, MayAdd, args_of, head_layer, tree_at, trees_of, tree_of_node, with_node}
 use Rattle.mbqi_terms.specs.Tree.{Layer, IsBase, IsPart, sum_of}
 use Rattle.mbqi_terms.proofs.Finding.{zip_trees, zip_stored, shape_is, made, args-head_layer}
@@ -226,7 +226,7 @@ module _ (l : Lists) where
   symbol_is : (f : Symbol) (x : Symbol-F _ _ _) → out-Symbol f ≡ x → f ≡ roll-Symbol x
   symbol_is f x e = sym (roll-out-Symbol f) ∙ ap roll-Symbol e
 
-  symbol_head : (f : Symbol) (ts : List Term) (x : Symbol-F _ _ _) → out-Symbol f ≡ x → IsListed l x → HasNoHead l (Term-F.Apply f ts) → ⊥
+  symbol_head : (f : Symbol) (ts : List Term) (x : Symbol-F _ _ _) → out-Symbol f ≡ x → IsPairListed l x → HasNoHead l (Term-F.Apply f ts) → ⊥
   symbol_head f ts (Symbol-F.Declared k) e listed none =
       none (head.Declared k) ts tt (ap (λ g. Term-F.Apply g ts) (sym (symbol_is f _ e ∙ symbol.rolls-Declared k)))
   symbol_head f ts (Symbol-F.Skolem k p) e listed none =

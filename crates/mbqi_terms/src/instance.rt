@@ -3,13 +3,10 @@
 use crate::arrays::ArrayPairs;
 use crate::formula::Formula;
 use crate::term::Terms;
-use mbqi_values::{Sequence, Truths, Value};
+use mbqi_values::{Sequence, Truths, Values};
 
 /// The instances of a refutation, in order.
 pub type InstanceLines = Sequence<InstanceLine>;
-
-/// A list of values, in order.
-pub type Values = Sequence<Value>;
 
 /// An instance of an assertion, by number: the ground terms for its universal places, by place, and the
 /// formula that it then is, without quantifiers and variables.

@@ -25,7 +25,7 @@ pub use copy::{
     copy_symbol, copy_term, copy_terms, copy_text,
 };
 pub use formula::{Formula, Formulas};
-pub use instance::{InstanceLine, InstanceLines, Valuation, Values};
+pub use instance::{InstanceLine, InstanceLines, Valuation};
 pub use rule::{ArrayKind, Origin, Rule, Rules};
 pub use same::{
     same_array, same_array_terms, same_binders, same_formula, same_formulas, same_sorts,

@@ -1,7 +1,7 @@
 //! Sorts and the variables that have them.
 
 ghost use Rattle.std.specs.Prelude.{◌≡◌};
-ghost use Rattle.mbqi_terms.specs.Sort.{plain_of, sort_of_plain, index_of, element_of};
+ghost use Rattle.mbqi_terms.specs.Sort.{plain_of, plain_sort, index_of, element_of};
 
 use mbqi_values::Sequence;
 
@@ -41,7 +41,7 @@ pub struct Binder {
 impl Plain {
     /// The same as a sort.
     pub fn sort(self) -> Sort
-        ensures { result ≡ sort_of_plain self }
+        ensures { result ≡ plain_sort self }
     {
         match self {
             Plain::Truth => Sort::Truth,

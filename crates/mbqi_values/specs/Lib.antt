@@ -1,3 +1,4 @@
+pub mod Clauses
 pub mod FaultKind
 pub mod Refusal
 pub mod Status

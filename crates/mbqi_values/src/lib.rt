@@ -18,7 +18,9 @@ pub mod value;
 
 pub use fault::{FaultKind, ReadError, Refusal};
 pub use lit::Lit;
-pub use sequence::{Numbers, Offsets, Sequence, Sizes, Text, Texts, Truths};
+pub use sequence::{
+    LitLists, Lits, Numbers, Offsets, Sequence, Sizes, Text, Texts, Truths, Values,
+};
 pub use status::Status;
 pub use steps::Steps;
 pub use sum::plus;

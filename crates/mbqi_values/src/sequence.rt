@@ -2,6 +2,8 @@ ghost use Rattle.std.specs.Prelude.{◌≡◌, ◌↔◌, ◌<◌, [], ◌∷◌
 ghost use Rattle.std.specs.Option.{option_copied};
 ghost use Rattle.std.specs.Slice.Iter.{iter_rest};
 
+use crate::lit::Lit;
+use crate::value::Value;
 use std::alloc::{AllocError, Global};
 use std::marker::Model;
 use std::slice;
@@ -31,6 +33,15 @@ pub type Sizes = Sequence<u64>;
 
 /// A list of truths.
 pub type Truths = Sequence<bool>;
+
+/// A list of values.
+pub type Values = Sequence<Value>;
+
+/// The literals of a clause.
+pub type Lits = Sequence<Lit>;
+
+/// A list of clauses.
+pub type LitLists = Sequence<Lits>;
 
 impl<T> Model for Sequence<T> {
     ghost use Rattle.std.specs.Prelude.{List};

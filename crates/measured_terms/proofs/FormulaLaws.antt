@@ -9,7 +9,9 @@ use Rattle.mbqi_terms.specs.declared.term.ArrayTerm.{ArrayTerm}
 use Rattle.mbqi_terms.specs.declared.term.Term.{Term}
 use denote.Hole.Carrier.{hidden}
 use Rattle.measured_terms.specs.Measures.{atom_varies}
-use Rattle.smtlib_terms.specs.Meaning.{deepest, depth_of_array, depth_of_formula, depth_of_term, variables_in, varies_term}
+use Rattle.mbqi_terms.specs.Depth.{deepest, depth_of_array, depth_of_formula, depth_of_term}
+use Rattle.mbqi_terms.specs.Binders.{variables_in}
+use Rattle.mbqi_terms.specs.Varies.{varies_term}
 
 pub depth-Truth : (b : Bool) → depth_of_formula (formula.Truth b) ≡ 1
 unfolding depth_of_formula

@@ -3,7 +3,7 @@ use Rattle.std.proofs.Common.{◌≡◌, ℕ, ◌+◌, Bool, true, false, ◌||�
 use Rattle.std.specs.List.{list_any}
 use Rattle.std.proofs.lemmas.List.{map-append}
 use Rattle.std.proofs.lemmas.List.Sums.{fold-append}
-use Rattle.smtlib_terms.specs.Meaning.{deepest}
+use Rattle.mbqi_terms.specs.Depth.{deepest}
 
 pub deepest_push : {A : Type 0} (depth : A → ℕ) (xs : List A) (x : A) → deepest (map depth (xs ++ x ∷ [])) ≡ max (deepest (map depth xs)) (depth x)
 deepest_push depth xs x = rw (map-append, fold-append) refl

@@ -9,8 +9,9 @@ use Rattle.mbqi_terms.specs.declared.term.Term.TheVariants as term
 use Rattle.mbqi_terms.specs.declared.term.ArrayTerm.TheBlock.{hidden-the_row-Term-1}
 use denote.Hole.Carrier.{hidden}
 use Rattle.measured_terms.specs.Measures.{depth_of_symbol, varies_symbol}
-use Rattle.smtlib_terms.specs.Meaning.{deepest, depth_of_array, depth_of_term, varies, varies_term}
+use Rattle.mbqi_terms.specs.Depth.{deepest, depth_of_array, depth_of_term}
 use Rattle.smtlib_terms.specs.Number.{sum_of}
+use Rattle.mbqi_terms.specs.Varies.{varies, varies_term}
 
 pub depth-Num : (n : ℤ) → depth_of_term (term.Num n) ≡ 1
 unfolding depth_of_term depth_of_array depth_of_symbol hidden-the_row-Term-1 hidden

@@ -4,7 +4,8 @@ use Rattle.mbqi_terms.specs.declared.formula.Formula.{Formula}
 use Rattle.mbqi_terms.specs.declared.formula.Formula.TheVariants as formula
 use Rattle.mbqi_terms.specs.declared.term.ArrayTerm.TheFolds.{fold-Symbol}
 use Rattle.mbqi_terms.specs.declared.term.Symbol.{Symbol}
-use Rattle.smtlib_terms.specs.Meaning.{array_depth, array_varies, symbol_depth, symbol_varies, term_depth, term_varies, varies_term}
+use Rattle.mbqi_terms.specs.Depth.{array_depth, symbol_depth, term_depth}
+use Rattle.mbqi_terms.specs.Varies.{array_varies, symbol_varies, term_varies, varies_term}
 
 -- How deep the parts of a symbol are: 0 without parts.
 unfoldable pub depth_of_symbol : Symbol → ℕ

@@ -1,7 +1,8 @@
 //! Array terms.
 
 ghost use Rattle.std.specs.Prelude.{◌≡◌, IfOk};
-ghost use Rattle.smtlib_terms.specs.Meaning.{depth_of_array, varies};
+ghost use Rattle.mbqi_terms.specs.Depth.{depth_of_array};
+ghost use Rattle.mbqi_terms.specs.Varies.{varies};
 
 use crate::lists::MeasuredArrays;
 use crate::measures::deeper;
@@ -28,7 +29,8 @@ impl Model for MeasuredArray {
 
     ghost coded = { array_of.the_row.coded };
 
-    ghost use Rattle.smtlib_terms.specs.Meaning.{depth_of_array, varies};
+    ghost use Rattle.mbqi_terms.specs.Depth.{depth_of_array};
+    ghost use Rattle.mbqi_terms.specs.Varies.{varies};
 
     ghost view = { λ m. m.array };
 

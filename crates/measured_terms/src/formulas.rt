@@ -3,7 +3,8 @@
 ghost use Rattle.std.specs.Prelude.{◌≡◌, ◌+◌, max, IfOk, MatchOption, Ok, Err};
 ghost use Rattle.mbqi_values.specs.declared.fault.FaultKind.TheVariants.{Unsupported};
 ghost use Rattle.measured_terms.specs.Measures.{atom_varies};
-ghost use Rattle.smtlib_terms.specs.Meaning.{depth_of_formula, is_quantified, variables_in};
+ghost use Rattle.mbqi_terms.specs.Depth.{depth_of_formula};
+ghost use Rattle.mbqi_terms.specs.Binders.{is_quantified, variables_in};
 ghost use Rattle.smtlib_terms.specs.Operators.{truth_value};
 
 use crate::arrays::MeasuredArray;
@@ -35,7 +36,8 @@ impl Model for MeasuredFormula {
     ghost coded = { formula_of.the_row.coded };
 
     ghost use Rattle.measured_terms.specs.Measures.{atom_varies};
-    ghost use Rattle.smtlib_terms.specs.Meaning.{depth_of_formula, variables_in};
+    ghost use Rattle.mbqi_terms.specs.Depth.{depth_of_formula};
+    ghost use Rattle.mbqi_terms.specs.Binders.{variables_in};
 
     ghost view = { λ m. m.formula };
 

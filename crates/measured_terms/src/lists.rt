@@ -2,7 +2,9 @@
 
 ghost use Rattle.std.specs.Prelude.{◌≡◌, ◌≢◌, ◌++◌, [], ◌∷◌, OnOk, OnErr, MatchResult, length, map, sum};
 ghost use Rattle.std.specs.List.{list_any};
-ghost use Rattle.smtlib_terms.specs.Meaning.{deepest, depth_of_array, depth_of_formula, depth_of_term, variables_in, varies, varies_term};
+ghost use Rattle.mbqi_terms.specs.Depth.{deepest, depth_of_array, depth_of_formula, depth_of_term};
+ghost use Rattle.mbqi_terms.specs.Binders.{variables_in};
+ghost use Rattle.mbqi_terms.specs.Varies.{varies, varies_term};
 
 use crate::arrays::MeasuredArray;
 use crate::formulas::MeasuredFormula;
@@ -35,7 +37,8 @@ impl Model for MeasuredFormulas {
 
     ghost use Rattle.std.specs.List.{list_any};
     ghost use Rattle.measured_terms.specs.Measures.{atom_varies};
-    ghost use Rattle.smtlib_terms.specs.Meaning.{deepest, depth_of_formula, variables_in};
+    ghost use Rattle.mbqi_terms.specs.Depth.{deepest, depth_of_formula};
+    ghost use Rattle.mbqi_terms.specs.Binders.{variables_in};
 
     ghost view = { λ m. m.formulas };
 
@@ -61,7 +64,8 @@ impl Model for MeasuredTerms {
     ghost coded = { coded_list item_of.the_row.coded };
 
     ghost use Rattle.std.specs.List.{list_any};
-    ghost use Rattle.smtlib_terms.specs.Meaning.{deepest, depth_of_term, varies_term};
+    ghost use Rattle.mbqi_terms.specs.Depth.{deepest, depth_of_term};
+    ghost use Rattle.mbqi_terms.specs.Varies.{varies_term};
 
     ghost view = { λ m. m.terms };
 
@@ -88,7 +92,8 @@ impl Model for MeasuredArrays {
     ghost coded = { coded_list item_of.the_row.coded };
 
     ghost use Rattle.std.specs.List.{list_any};
-    ghost use Rattle.smtlib_terms.specs.Meaning.{deepest, depth_of_array, varies};
+    ghost use Rattle.mbqi_terms.specs.Depth.{deepest, depth_of_array};
+    ghost use Rattle.mbqi_terms.specs.Varies.{varies};
 
     ghost view = { λ m. m.arrays };
 

@@ -1,7 +1,8 @@
 //! Terms.
 
 ghost use Rattle.std.specs.Prelude.{◌≡◌, IfOk};
-ghost use Rattle.smtlib_terms.specs.Meaning.{depth_of_term, varies_term};
+ghost use Rattle.mbqi_terms.specs.Depth.{depth_of_term};
+ghost use Rattle.mbqi_terms.specs.Varies.{varies_term};
 ghost use Rattle.smtlib_terms.specs.Number.{sum_of};
 
 use crate::arrays::MeasuredArray;
@@ -30,7 +31,8 @@ impl Model for MeasuredTerm {
 
     ghost coded = { term_of.the_row.coded };
 
-    ghost use Rattle.smtlib_terms.specs.Meaning.{depth_of_term, varies_term};
+    ghost use Rattle.mbqi_terms.specs.Depth.{depth_of_term};
+    ghost use Rattle.mbqi_terms.specs.Varies.{varies_term};
 
     ghost view = { λ m. m.term };
 

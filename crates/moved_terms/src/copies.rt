@@ -1,4 +1,4 @@
-//! Copies of array terms with their measures.
+//! Copies of terms and array terms with their measures.
 
 ghost use Rattle.std.specs.Prelude.{◌≡◌, IfOk};
 
@@ -13,7 +13,7 @@ fn copied_terms(alloc: Global, terms: &[Term]) -> Result<MeasuredTerms, AllocErr
 {
     let mut copies = MeasuredTerms::new(alloc);
     for t in terms {
-        copies.push(copied_term(alloc, t)?)?;
+        copies.push(measured_term(alloc, t)?)?;
     }
     Ok(copies)
 }
@@ -48,14 +48,14 @@ fn copied_symbol(alloc: Global, symbol: &Symbol) -> Result<MeasuredSymbol, Alloc
     }
 }
 
-/// A copy of a term.
+/// A copy of a term, measured anew. The only error is want of memory.
 #[cycle(copies)]
-fn copied_term(alloc: Global, term: &Term) -> Result<MeasuredTerm, AllocError>
+pub fn measured_term(alloc: Global, term: &Term) -> Result<MeasuredTerm, AllocError>
     ensures { IfOk result (λ copy. copy ≡ term.now) }
 {
     match term {
         Term::Num(n) => Ok(MeasuredTerm::number(*n)),
-        Term::Plus(t, n) => MeasuredTerm::plus(alloc, copied_term(alloc, t.get())?, *n),
+        Term::Plus(t, n) => MeasuredTerm::plus(alloc, measured_term(alloc, t.get())?, *n),
         Term::Var(place) => Ok(MeasuredTerm::variable(*place)),
         Term::Truth(truth) => Ok(MeasuredTerm::truth(*truth)),
         Term::Apply(f, ts) => {
@@ -65,7 +65,7 @@ fn copied_term(alloc: Global, term: &Term) -> Result<MeasuredTerm, AllocError>
         }
         Term::Read(a, i) => {
             let array = measured_array(alloc, a.get())?;
-            let index = copied_term(alloc, i.get())?;
+            let index = measured_term(alloc, i.get())?;
             MeasuredTerm::read(alloc, array, index)
         }
         Term::Default(a) => MeasuredTerm::default_of(alloc, measured_array(alloc, a.get())?),
@@ -81,12 +81,12 @@ pub fn measured_array(alloc: Global, array: &ArrayTerm) -> Result<MeasuredArray,
         ArrayTerm::Name(f) => Ok(MeasuredArray::name(*f)),
         ArrayTerm::Store(a, i, v) => {
             let inner = measured_array(alloc, a.get())?;
-            let index = copied_term(alloc, i.get())?;
-            let value = copied_term(alloc, v.get())?;
+            let index = measured_term(alloc, i.get())?;
+            let value = measured_term(alloc, v.get())?;
             MeasuredArray::store(alloc, inner, index, value)
         }
         ArrayTerm::Const(sort, v) => {
-            MeasuredArray::constant(alloc, *sort, copied_term(alloc, v.get())?)
+            MeasuredArray::constant(alloc, *sort, measured_term(alloc, v.get())?)
         }
         ArrayTerm::Map(op, arrays) => {
             MeasuredArray::map(*op, copied_arrays(alloc, arrays.as_slice())?)

@@ -60,7 +60,7 @@ fn moved_formulas(
 {
     let mut moved = MeasuredFormulas::new(alloc);
     for f in formulas {
-        moved.push(moved_tree(alloc, shift, f)?)?;
+        moved.push(moved_formula(alloc, shift, f)?)?;
     }
     Ok(moved)
 }
@@ -75,7 +75,7 @@ fn moved_iff(
 ) -> Result<MeasuredFormula, AllocError>
     ensures { IfOk result (λ moved. moved ≡ Formula.Iff left (shifted_formula shift.from shift.by g.now)) }
 {
-    MeasuredFormula::iff(alloc, left, moved_tree(alloc, shift, g.get())?)
+    MeasuredFormula::iff(alloc, left, moved_formula(alloc, shift, g.get())?)
 }
 
 /// `ite` of a condition and a branch that were moved and of a branch that is to be moved.
@@ -89,7 +89,12 @@ fn moved_choice(
 ) -> Result<MeasuredFormula, AllocError>
     ensures { IfOk result (λ moved. moved ≡ Formula.Choose condition then (shifted_formula shift.from shift.by g.now)) }
 {
-    MeasuredFormula::choose(alloc, condition, then, moved_tree(alloc, shift, g.get())?)
+    MeasuredFormula::choose(
+        alloc,
+        condition,
+        then,
+        moved_formula(alloc, shift, g.get())?,
+    )
 }
 
 /// `forall` with its variables moved.
@@ -103,7 +108,7 @@ fn moved_forall(
     ensures { IfOk result (λ moved. moved ≡ Formula.Forall (map (shifted_binder shift.from shift.by) binders.now) (shifted_formula shift.from shift.by f.now)) }
 {
     let moved = moved_binders(alloc, shift, binders)?;
-    MeasuredFormula::forall(alloc, moved, moved_tree(alloc, shift, f.get())?)
+    MeasuredFormula::forall(alloc, moved, moved_formula(alloc, shift, f.get())?)
 }
 
 /// `exists` with its variables moved.
@@ -117,13 +122,20 @@ fn moved_exists(
     ensures { IfOk result (λ moved. moved ≡ Formula.Exists (map (shifted_binder shift.from shift.by) binders.now) (shifted_formula shift.from shift.by f.now)) }
 {
     let moved = moved_binders(alloc, shift, binders)?;
-    MeasuredFormula::exists(alloc, moved, moved_tree(alloc, shift, f.get())?)
+    MeasuredFormula::exists(alloc, moved, moved_formula(alloc, shift, f.get())?)
 }
 
-/// A formula with its variables moved.
+/// The formula with its variables moved, free ones and those that its quantifiers bind, and with its measures. Array
+/// terms whose equality is stated have no variables, and stay as they are. The only error is want of memory.
+///
+/// SMT-LIB 2.6 lets names of variables be reused; that variables are told apart by places is this project's own.
 #[cycle(formulas)]
 #[tactic(auto, using(crate::proofs::FormulaMoves::formula_laws))]
-fn moved_tree(alloc: Global, shift: Shift, formula: &Formula) -> Result<MeasuredFormula, AllocError>
+pub fn moved_formula(
+    alloc: Global,
+    shift: Shift,
+    formula: &Formula,
+) -> Result<MeasuredFormula, AllocError>
     ensures { IfOk result (λ moved. moved ≡ shifted_formula shift.from shift.by formula.now) }
 {
     match formula {
@@ -132,30 +144,16 @@ fn moved_tree(alloc: Global, shift: Shift, formula: &Formula) -> Result<Measured
         Formula::Equal(s, t) => moved_equality(alloc, shift, s, t),
         Formula::AtMost(s, t) => moved_order(alloc, shift, s, t),
         Formula::SameArray(a, b) => copied_equality(alloc, a, b),
-        Formula::Not(f) => MeasuredFormula::negation(alloc, moved_tree(alloc, shift, f.get())?),
+        Formula::Not(f) => MeasuredFormula::negation(alloc, moved_formula(alloc, shift, f.get())?),
         Formula::All(fs) => MeasuredFormula::all(moved_formulas(alloc, shift, fs.as_slice())?),
         Formula::Any(fs) => MeasuredFormula::any(moved_formulas(alloc, shift, fs.as_slice())?),
-        Formula::Iff(f, g) => moved_iff(alloc, shift, g, moved_tree(alloc, shift, f.get())?),
+        Formula::Iff(f, g) => moved_iff(alloc, shift, g, moved_formula(alloc, shift, f.get())?),
         Formula::Choose(c, f, g) => {
-            let condition = moved_tree(alloc, shift, c.get())?;
-            let then = moved_tree(alloc, shift, f.get())?;
+            let condition = moved_formula(alloc, shift, c.get())?;
+            let then = moved_formula(alloc, shift, f.get())?;
             moved_choice(alloc, shift, g, condition, then)
         }
         Formula::Forall(binders, f) => moved_forall(alloc, shift, binders.as_slice(), f),
         Formula::Exists(binders, f) => moved_exists(alloc, shift, binders.as_slice(), f),
     }
-}
-
-/// The formula with its variables moved, free ones and those that its quantifiers bind, and with its measures. Array
-/// terms whose equality is stated have no variables, and stay as they are. The only error is want of memory.
-///
-/// SMT-LIB 2.6 lets names of variables be reused; that variables are told apart by places is this project's own.
-pub fn moved_formula(
-    alloc: Global,
-    shift: Shift,
-    formula: &MeasuredFormula,
-) -> Result<MeasuredFormula, AllocError>
-    ensures { IfOk result (λ moved. moved ≡ shifted_formula shift.from shift.by formula.now) }
-{
-    moved_tree(alloc, shift, formula.as_formula())
 }

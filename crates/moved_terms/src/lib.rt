@@ -1,7 +1,8 @@
 //! Copies of formulas with their variables moved to later places, with their measures.
 //!
-//! What a `let` binds and what a macro is given are read once, with their variables counted from some place on. Where
-//! such a formula is used behind further binders, its own variables come later: [`moved_formula`] gives it so.
+//! What a `let` binds, what a macro is given and what a macro without parameters means are read once, with their variables
+//! counted from some place on. Where such a formula is used behind further binders, its own variables come later:
+//! [`moved_formula`] gives it so.
 
 #![tactic(auto)]
 
@@ -10,6 +11,6 @@ mod formulas;
 mod places;
 mod terms;
 
-pub use copies::measured_array;
+pub use copies::{measured_array, measured_term};
 pub use formulas::moved_formula;
 pub use places::Shift;

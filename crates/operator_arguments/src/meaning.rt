@@ -9,6 +9,7 @@ ghost use Rattle.operator_arguments.specs.Measured.{array_in, meaning_of, side_o
 
 use mbqi_terms::{Plain, Sort};
 use measured_terms::{MeasuredArray, MeasuredFormula, MeasuredTerm};
+use smtlib_terms::meaning::Meaning;
 use std::alloc::{AllocError, Global};
 
 /// What a tree means, with its measures.
@@ -103,6 +104,19 @@ impl MeasuredMeaning {
         match self {
             MeasuredMeaning::Array(index, element, a) => Some((index, element, a)),
             MeasuredMeaning::Formula(_) | MeasuredMeaning::Term(_, _) => None,
+        }
+    }
+
+    /// The meaning without its measures.
+    pub fn into_plain(self) -> Meaning
+        ensures { result ≡ meaning_of self }
+    {
+        match self {
+            MeasuredMeaning::Formula(f) => Meaning::Formula(f.into_formula()),
+            MeasuredMeaning::Term(sort, t) => Meaning::Term(sort, t.into_term()),
+            MeasuredMeaning::Array(index, element, a) => {
+                Meaning::Array(index, element, a.into_array())
+            }
         }
     }
 

@@ -1,7 +1,7 @@
 //! Whether sorts are one.
 
 ghost use Rattle.std.specs.Prelude.{◌≡◌};
-ghost use Rattle.smtlib_terms.specs.Names.{is_plain, is_sort, plain_sort};
+ghost use Rattle.mbqi_terms.specs.Sort.{plain_sort, is_plain, is_sort};
 
 use mbqi_terms::{Plain, Sort};
 

@@ -1,5 +1,5 @@
 -- The commands of a script in form give the script.
-use Rattle.std.proofs.Common.{◌≡◌, ℕ, ◌≤◌, Bool, true, false, cond, List, [], ◌∷◌, ◌++◌, map, Option, None, Some, All, Result, Ok, Err, codes, refl, sym, ap, ◌∙◌, subst, append_assoc, append-nil}
+use Rattle.std.proofs.Common.{◌≡◌, ℕ, ◌≤◌, Bool, true, false, cond, List, [], ◌∷◌, ◌++◌, map, Option, None, Some, All, Result, Ok, Err, codes, refl, sym, ap, ◌∙◌, subst, append_assoc, append-nil, length}
 use Rattle.std.specs.List.{AllByRecursion}
 use Rattle.std.proofs.lemmas.List.Elements.{recursion_from_All}
 use Rattle.mbqi_values.specs.declared.fault.FaultKind.{FaultKind}
@@ -25,25 +25,26 @@ use Rattle.smtlib_decls.specs.declared.command.Command.{Command}
 use Rattle.smtlib_decls.specs.declared.command.Command.TheVariants as command
 use Rattle.smtlib_decls.specs.declared.progress.Progress.{Progress}
 use Rattle.smtlib_printer.specs.Names.{marks_of}
+use Rattle.smtlib_terms.specs.declared.meaning.Meaning.{Meaning}
 use Rattle.smtlib_terms.specs.declared.meaning.Meaning.TheVariants as meaning
 use Rattle.smtlib_terms.specs.declared.word.Word.TheVariants as word
 use Rattle.smtlib_terms.specs.declared.meaning.Side.{Side}
-use Rattle.smtlib_terms.specs.Meaning.{depth_of_formula}
-use Rattle.smtlib_terms.specs.Declaring.{formula_read, sort_read}
+use Rattle.mbqi_terms.specs.Depth.{depth_of_formula}
+use Rattle.smtlib_terms.specs.Declaring.{declarations_of, formula_read, sort_read, term_read}
 use Rattle.smtlib_terms.specs.Names.{◌>>=◌}
 use Rattle.smtlib_terms.specs.Operators.{meant, plainly}
 use Rattle.smtlib_terms.specs.Reading.{is_list, trees_in}
 use Rattle.smtlib_terms.specs.Words.{word_of}
 use Rattle.smtlib_terms.proofs.TermTrees.{trees_in-List}
-use Rattle.printed_trees.specs.InForm.{IsVariableSort}
-use Rattle.printed_trees.specs.Means as tree_means
-use Rattle.printed_trees.specs.Names.{AreToldApart, IsName, declarations_of, function_names, signature_of}
-use Rattle.printed_trees.specs.Scripts.{DifferInLabels, IsAsserted, IsInForm, IsRanked}
-use Rattle.printed_trees.specs.Trees.{assertion_command, formula_tree, function_command, labelled_tree, question_commands, script_trees, sort_command, sort_tree, word_tree}
-use Rattle.printed_trees.proofs.Assertions.{read_as, told_apart}
-use Rattle.printed_trees.proofs.ReadFormulas.{formula_means}
+use Rattle.mbqi_terms.specs.InForm.{DifferInLabels, IsRanked, IsVariableSort, function_names}
+use Rattle.smtlib_terms.specs.InForm.{IsInForm, IsName}
+use Rattle.printed_trees.specs.Names.{AreToldApart, HasFewVariables, signature_of}
 use Rattle.printed_trees.proofs.ReadParts.{word_means}
-use Rattle.printed_trees.proofs.ScriptTexts.{script_forms}
+use Rattle.printed_trees.specs.Means as tree_means
+use Rattle.printed_trees.specs.Trees.{assertion_command, formula_tree, function_command, labelled_tree, question_commands, script_trees, sort_command, sort_tree, word_tree}
+use Rattle.printed_trees.proofs.Assertions.{closed_as, told_apart}
+use Rattle.printed_trees.proofs.ReadFormulas.{formula_means}
+use Rattle.printed_trees.proofs.ScriptTexts.{IsWritable, assertions_are, script_forms}
 use Rattle.printed_script.proofs.Declarations.{args_mean, function_is_new, result_means, sort_is_new}
 use Rattle.printed_script.proofs.Labels.{label_is, not_taken}
 
@@ -112,13 +113,13 @@ all_sorts done (name ∷ rest) names distinct =
 abbrev functions_done : Script → List Function → Progress
 functions_done script done = record { names = record { sorts = script.sorts; functions = done; macros = [] }; assertions = []; asks = false }
 
-one_function : (script : Script) (done : List Function) (f : Function) (rest : List Function) → AreToldApart script (marks_of script) → IsName f.name → IsRanked script f → AreDistinct (map (λ (f : Function). f.name) (done ++ f ∷ rest)) →
+one_function : (script : Script) (done : List Function) (f : Function) (rest : List Function) → AreToldApart script (marks_of script) → IsName f.name → IsRanked (length script.sorts) f → AreDistinct (map (λ (f : Function). f.name) (done ++ f ∷ rest)) →
     command_meant (functions_done script done) (function_command script f) ≡ Ok (functions_done script (done ++ f ∷ []))
 unfolding signature_declared commands.function_command
 one_function script done f rest told is ranked distinct =
     let p = functions_done script done in
     let args = map (sort_tree script) f.args in
-    let each = recursion_from_All (IsVariableSort script) f.args ranked.args in
+    let each = recursion_from_All (IsVariableSort (length script.sorts)) f.args ranked.args in
     command_by p (codes "declare-fun") command.DeclareFun (tree.Symbol f.name ∷ tree.List args ∷ sort_tree script f.result ∷ []) declare_fun_command
     ∙ (ap (λ (b : Bool). cond b (signature_declared p f.name (trees_in (tree.List args)) (sort_tree script f.result)) (Err BadForm)) (is_list-List args)
     ∙ (ap (λ (ts : List Sexpr). signature_declared p f.name ts (sort_tree script f.result)) (trees_in-List args)
@@ -126,7 +127,7 @@ one_function script done f rest told is ranked distinct =
     ∙ (ap (λ (r : Result Sort FaultKind). r >>= (λ (s : Sort). commands.function_command p f.name f.args s)) (result_means script (marks_of script) f.result told ranked.result)
     ∙ ap (renamed p) (function_is_new script script.sorts done f rest is ranked each distinct)))))
 
-all_functions : (script : Script) (done rest : List Function) → AreToldApart script (marks_of script) → AllByRecursion IsName (map (λ (f : Function). f.name) rest) → AllByRecursion (IsRanked script) rest → AreDistinct (map (λ (f : Function). f.name) (done ++ rest)) →
+all_functions : (script : Script) (done rest : List Function) → AreToldApart script (marks_of script) → AllByRecursion IsName (map (λ (f : Function). f.name) rest) → AllByRecursion (IsRanked (length script.sorts)) rest → AreDistinct (map (λ (f : Function). f.name) (done ++ rest)) →
     taken (functions_done script done) (map (function_command script) rest) ≡ Ok (functions_done script (done ++ rest))
 all_functions script done [] told names ranks distinct = ap (λ (all : List Function). Ok (functions_done script all)) (sym (append-nil done))
 all_functions script done (f ∷ rest) told names ranks distinct =
@@ -149,19 +150,19 @@ labelled_means script (Some label) t f is deep =
     word_means (codes "!") word.Annotated (t ∷ tree.Keyword (codes "named") ∷ tree.Symbol label ∷ []) (signature_of script) [] 0 (meaning.Formula f) annotated_word
     (ap (λ (r : Result Side FaultKind). meant (r >>= plainly)) is) deep
 
-one_assertion : (script : Script) (done : List Assertion) (a : Assertion) (rest : List Assertion) → AreToldApart script (marks_of script) → IsAsserted script a → DifferInLabels (done ++ a ∷ rest) →
+one_assertion : (script : Script) (done : List Assertion) (a : Assertion) (rest : List Assertion) → AreToldApart script (marks_of script) → IsWritable script a → DifferInLabels (done ++ a ∷ rest) →
     command_meant (asserted_done script done) (assertion_command script (marks_of script) a) ≡ Ok (asserted_done script (done ++ a ∷ []))
 one_assertion script done a rest told is differ =
     let p = asserted_done script done in
     let marks = marks_of script in
     let t = labelled_tree a.label (formula_tree script marks a.formula) in
-    let read = read_as script t a.formula (labelled_means script a.label (formula_tree script marks a.formula) a.formula (formula_means script marks told [] tt 0 a.formula is.formula is.depth) is.depth) in
+    let read = closed_as script t (meaning.Formula a.formula) (labelled_means script a.label (formula_tree script marks a.formula) a.formula (formula_means script marks told [] tt 0 a.formula is.asserted.formula is.small is.asserted.depth) is.asserted.depth) in
     command_by p (codes "assert") command.Assert (t ∷ []) assert_is_command
-    ∙ (ap (λ (r : Result (Option (List ℕ)) FaultKind). r >>= (λ (label : Option (List ℕ)). formula_read p.names t >>= (λ (f : Formula). asserted p label f))) (label_is script marks told a.label a.formula is.formula)
-    ∙ (ap (λ (r : Result Formula FaultKind). r >>= (λ (f : Formula). asserted p a.label f)) read
+    ∙ (ap (λ (r : Result (Option (List ℕ)) FaultKind). r >>= (λ (label : Option (List ℕ)). term_read p.names t >>= asserted p label)) (label_is script marks told a.label a.formula is.asserted.formula)
+    ∙ (ap (λ (r : Result Meaning FaultKind). r >>= asserted p a.label) read
     ∙ ap (λ (b : Bool). cond b (Err Twice) (Ok (with_assertion p a.label a.formula))) (not_taken done a rest differ)))
 
-all_assertions : (script : Script) (done rest : List Assertion) → AreToldApart script (marks_of script) → AllByRecursion (IsAsserted script) rest → DifferInLabels (done ++ rest) →
+all_assertions : (script : Script) (done rest : List Assertion) → AreToldApart script (marks_of script) → AllByRecursion (IsWritable script) rest → DifferInLabels (done ++ rest) →
     taken (asserted_done script done) (map (assertion_command script (marks_of script)) rest) ≡ Ok (asserted_done script (done ++ rest))
 all_assertions script done [] told all differ = ap (λ (as' : List Assertion). Ok (asserted_done script as')) (sym (append-nil done))
 all_assertions script done (a ∷ rest) told all differ =
@@ -180,17 +181,17 @@ question_taken script true =
     taken_more (tree.List (word_tree (codes "check-sat") ∷ [])) [] (asserted_done script script.assertions) (record { names = declarations_of script; assertions = script.assertions; asks = true })
     (command_by (asserted_done script script.assertions) (codes "check-sat") command.CheckSat [] question_command)
 
-all_taken : (script : Script) → IsInForm script → taken nothing (script_trees script) ≡ Ok (whole script)
-all_taken script form =
+all_taken : (script : Script) → IsInForm script → HasFewVariables script → taken nothing (script_trees script) ≡ Ok (whole script)
+all_taken script form few =
     let told = told_apart script form.named in
     let assertions = map (assertion_command script (marks_of script)) script.assertions in
     let functions = map (function_command script) script.functions in
     taken_append (map sort_command script.sorts) (functions ++ (assertions ++ question_commands script.asks)) nothing (sorts_done script.sorts)
     (all_sorts [] script.sorts (recursion_from_All IsName script.sorts form.named.sorts) form.named.sorts_differ)
     ∙ (taken_append functions (assertions ++ question_commands script.asks) (functions_done script []) (functions_done script script.functions)
-    (all_functions script [] script.functions told (recursion_from_All IsName (function_names script) form.named.functions) (recursion_from_All (IsRanked script) script.functions form.ranked) form.named.functions_differ)
+    (all_functions script [] script.functions told (recursion_from_All IsName (function_names script) form.named.functions) (recursion_from_All (IsRanked (length script.sorts)) script.functions form.ranked) form.named.functions_differ)
     ∙ (taken_append assertions (question_commands script.asks) (asserted_done script []) (asserted_done script script.assertions)
-    (all_assertions script [] script.assertions told (recursion_from_All (IsAsserted script) script.assertions form.asserted) form.labels)
+    (all_assertions script [] script.assertions told (recursion_from_All (IsWritable script) script.assertions (assertions_are script form few)) form.labels)
     ∙ question_taken script script.asks))
 
 -- no command is an exit
@@ -229,11 +230,11 @@ forms_from [] p q none e = let same : p ≡ q = cc in ap (λ (o : Progress). Ok 
 forms_from (form ∷ forms) p q none e =
     forms_step form forms p q (command_meant p form.tree) none.0 refl e (λ o f. forms_from forms o q none.1 f)
 
-pub text_means : (script : Script) → IsInForm script → All IsShallow (script_trees script) → Means (script_text script) script
-text_means script form shallow =
-    let read = script_forms script form shallow in (
+pub text_means : (script : Script) → IsInForm script → HasFewVariables script → All IsShallow (script_trees script) → Means (script_text script) script
+text_means script form few shallow =
+    let read = script_forms script form few shallow in (
       read.0,
       read.1,
       forms_from read.0 nothing (whole script) (subst (AllByRecursion IsNoExit) (sym read.2) (none_exits script))
-          (ap (taken nothing) read.2 ∙ all_taken script form),
+          (ap (taken nothing) read.2 ∙ all_taken script form few),
     )

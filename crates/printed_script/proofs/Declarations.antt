@@ -10,16 +10,17 @@ use Rattle.mbqi_terms.specs.declared.sort.Sort.{Sort}
 use Rattle.mbqi_terms.specs.declared.sort.Sort.TheVariants as sort
 use Rattle.smtlib_decls.specs.Commands.{sorts_read}
 use Rattle.smtlib_terms.specs.Declaring.{Declarations, declarable, function_declared, is_first_order, is_function, is_supported, sort_declared, sort_read, with_function, with_sort}
-use Rattle.smtlib_terms.specs.Names.{◌>>=◌, is_array, sort_meant}
+use Rattle.smtlib_terms.specs.Names.{◌>>=◌, sort_meant}
 use Rattle.smtlib_terms.specs.Words.{is_one_of, is_reserved, is_text}
 use Rattle.smtlib_terms.proofs.SortTrees.{sort_meant-Symbol}
 use Rattle.smtlib_terms.proofs.Texts.{other_text}
-use Rattle.printed_trees.specs.InForm.{IsVariableSort}
-use Rattle.printed_trees.specs.Names.{AreToldApart, IsName}
-use Rattle.printed_trees.specs.Scripts.{IsRanked, IsResultSort}
-use Rattle.printed_trees.specs.Trees.{sort_tree}
+use Rattle.mbqi_terms.specs.InForm.{IsRanked, IsResultSort, IsVariableSort}
+use Rattle.smtlib_terms.specs.InForm.{IsName}
+use Rattle.printed_trees.specs.Names.{AreToldApart}
 use Rattle.printed_trees.proofs.Lists.{distinct_head, distinct_tail}
+use Rattle.printed_trees.specs.Trees.{sort_tree}
 use Rattle.printed_trees.proofs.ReadSorts.{array_sort_means, variable_sort_means}
+use Rattle.mbqi_terms.specs.Sort.{is_array}
 
 -- the element in the middle of a list
 pub get_middle : {X : Type 0} (xs : List X) (x : X) (ys : List X) → slice_get (xs ++ x ∷ ys) (length xs) ≡ Some x
@@ -53,7 +54,7 @@ new_function (g ∷ done) f rest distinct =
     get_name (h ∷ xs) f ys = get_name xs f ys
 
 -- its sorts are supported
-first_order : (script : Script) (ss : List Sort) → AllByRecursion (IsVariableSort script) ss → list_all is_first_order ss ≡ true
+first_order : (script : Script) (ss : List Sort) → AllByRecursion (IsVariableSort (length script.sorts)) ss → list_all is_first_order ss ≡ true
 first_order script [] all = refl
 first_order script (sort.Truth ∷ ss) all = absurd all.0
 first_order script (sort.Int ∷ ss) all = first_order script ss all.1
@@ -71,7 +72,7 @@ array_alone args false none = or_true (eqb (length args) 0)
 supported : (args : List Sort) (result : Sort) → list_all is_first_order args ≡ true → (eqb (length args) 0 || not (is_array result)) ≡ true → is_supported args result ≡ true
 supported args result first second = rw first second
 
-pub function_is_new : (script : Script) (sorts : List (List ℕ)) (done : List Function) (f : Function) (rest : List Function) → IsName f.name → IsRanked script f → AllByRecursion (IsVariableSort script) f.args → AreDistinct (map (λ (f : Function). f.name) (done ++ f ∷ rest)) →
+pub function_is_new : (script : Script) (sorts : List (List ℕ)) (done : List Function) (f : Function) (rest : List Function) → IsName f.name → IsRanked (length script.sorts) f → AllByRecursion (IsVariableSort (length script.sorts)) f.args → AreDistinct (map (λ (f : Function). f.name) (done ++ f ∷ rest)) →
     function_declared (record { sorts = sorts; functions = done; macros = [] }) f ≡ Ok (record { sorts = sorts; functions = done ++ f ∷ []; macros = [] })
 unfolding function_declared
 function_is_new script sorts done f rest is ranked args distinct =
@@ -82,13 +83,13 @@ function_is_new script sorts done f rest is ranked args distinct =
     ∙ declarable_ok f.name (is_function d f.name) (with_function d f) is.free new
 
 -- its sorts read
-pub result_means : (script : Script) (marks : ℕ) (s : Sort) → AreToldApart script marks → IsResultSort script s → sort_meant (sort_tree script s) script.sorts ≡ Ok s
+pub result_means : (script : Script) (marks : ℕ) (s : Sort) → AreToldApart script marks → IsResultSort (length script.sorts) s → sort_meant (sort_tree script s) script.sorts ≡ Ok s
 result_means script marks sort.Truth told is = sort_meant-Symbol (codes "Bool") script.sorts
 result_means script marks sort.Int told is = variable_sort_means script marks sort.Int told is
 result_means script marks (sort.Elem s) told is = variable_sort_means script marks (sort.Elem s) told is
 result_means script marks (sort.Array i e) told is = array_sort_means script marks i e told is.0 is.1
 
-pub args_mean : (script : Script) (marks : ℕ) (d : Declarations) (ss : List Sort) → AreToldApart script marks → d.sorts ≡ script.sorts → AllByRecursion (IsVariableSort script) ss → sorts_read d (map (sort_tree script) ss) ≡ Ok ss
+pub args_mean : (script : Script) (marks : ℕ) (d : Declarations) (ss : List Sort) → AreToldApart script marks → d.sorts ≡ script.sorts → AllByRecursion (IsVariableSort (length script.sorts)) ss → sorts_read d (map (sort_tree script) ss) ≡ Ok ss
 args_mean script marks d [] told same all = refl
 args_mean script marks d (s ∷ ss) told same all =
     let one : sort_read d (sort_tree script s) ≡ Ok s = ap (λ (names : List (List ℕ)). sort_meant (sort_tree script s) names) same ∙ variable_sort_means script marks s told all.0 in

@@ -16,11 +16,12 @@ use Rattle.smtlib_terms.specs.Reading.{trees_in}
 use Rattle.smtlib_terms.specs.Words.{is_reserved_word, is_text}
 use Rattle.smtlib_terms.proofs.TermTrees.{trees_in-List, trees_in-Numeral, trees_in-Symbol}
 use Rattle.smtlib_terms.proofs.Texts.{other_text}
-use Rattle.printed_trees.specs.InForm.{HasSort, IsFormula}
+use Rattle.mbqi_terms.specs.HasSort.{HasSortIn}
+use Rattle.mbqi_terms.specs.InForm.{DifferInLabels, IsPlaced}
+use Rattle.smtlib_terms.specs.InForm.{HasSort, IsFormula}
 use Rattle.printed_trees.specs.Names.{AreToldApart}
-use Rattle.printed_trees.specs.Scripts.{DifferInLabels}
-use Rattle.printed_trees.specs.Trees.{applied_tree, formula_tree, labelled_tree, number_tree, term_tree, truth_tree}
 use Rattle.printed_trees.proofs.Scopes.{function_found}
+use Rattle.printed_trees.specs.Trees.{applied_tree, formula_tree, labelled_tree, number_tree, term_tree, truth_tree}
 use Rattle.printed_trees.proofs.TreeLaws as tree_law
 use Rattle.printed_trees.proofs.Words.{no_word}
 use Rattle.printed_script.proofs.Declarations.{get_middle}
@@ -59,30 +60,35 @@ same_none : (t u : Sexpr) → t ≡ u → HasNone u → HasNone t
 same_none t u e is = ap (λ (v : Sexpr). attributes_in (trees_in v)) e ∙ is
 
 term_none : (script : Script) (marks : ℕ) (told : AreToldApart script marks) (scope : List Binder) (t : Term) (s : Plain) → HasSort script scope t s → HasNone (term_tree script marks t)
-term_none script marks told scope t s (HasSort.number n within) = same_none _ _ (tree_law.term-Num script marks n) (number_none n)
-term_none script marks told scope t s (HasSort.sum u n h base some within) = same_none _ _ (tree_law.term-Plus script marks u n) (list_none (codes "+") _ refl)
-term_none script marks told scope t s (HasSort.variable place e index found) = same_none _ _ (tree_law.term-Var script marks place) (symbol_none (variable_text marks place))
-term_none script marks told scope t s (HasSort.application f ts args e d hs) =
+term_none script marks told scope t s (HasSortIn.number n within) = same_none _ _ (tree_law.term-Num script marks n) (number_none n)
+term_none script marks told scope t s (HasSortIn.sum u n h base some within) = same_none _ _ (tree_law.term-Plus script marks u n) (list_none (codes "+") _ refl)
+term_none script marks told scope t s (HasSortIn.variable place e index found) = same_none _ _ (tree_law.term-Var script marks place) (symbol_none (variable_text marks place))
+term_none script marks told scope t s (HasSortIn.application f ts args e d hs) =
     let is = function_found script marks f d.function told d.there in
     same_none _ _ (tree_law.term-Apply script marks f ts)
     (same_none _ _ (ap (λ (o : Option Function). applied_tree (tree.Symbol (name_in o)) (map (term_tree script marks) ts)) d.there)
     (applied_none d.function.name (map (term_tree script marks) ts) (no_word d.function.name (codes "!") is.no_word at_reserved)))
-term_none script marks told scope t s (HasSort.reading a u i e h index g) = same_none _ _ (tree_law.term-Read script marks a u) (list_none (codes "select") _ refl)
-term_none script marks told scope t s (HasSort.last a e h closed) = same_none _ _ (tree_law.term-Default script marks a) (list_none (codes "default") _ refl)
+term_none script marks told scope t s (HasSortIn.reading a u i e h index g) = same_none _ _ (tree_law.term-Read script marks a u) (list_none (codes "select") _ refl)
+term_none script marks told scope t s (HasSortIn.last a e h closed) = same_none _ _ (tree_law.term-Default script marks a) (list_none (codes "default") _ refl)
+term_none script marks told scope t s (HasSortIn.truth b) = same_none _ _ (tree_law.term-Truth script marks b) (truth_none b)
+term_none script marks told scope t s (HasSortIn.skolem assertion place ts args e hides d hs) = absurd cc
+term_none script marks told scope t s (HasSortIn.seed k hides below) = absurd cc
+term_none script marks told scope t s (HasSortIn.far hides) = absurd cc
+term_none script marks told scope t s (HasSortIn.differing a b i e hides index ha hb) = absurd cc
 
 formula_none : (script : Script) (marks : ℕ) (told : AreToldApart script marks) (scope : List Binder) (next : ℕ) (f : Formula) → IsFormula script scope next f → HasNone (formula_tree script marks f)
-formula_none script marks told scope next f (IsFormula.truth sc n b) = same_none _ _ (tree_law.formula-Truth script marks b) (truth_none b)
-formula_none script marks told scope next f (IsFormula.atom sc n t h) = same_none _ _ (tree_law.formula-Atom script marks t) (term_none script marks told sc t _ h)
-formula_none script marks told scope next f (IsFormula.equal sc n s t e index hs ht) = same_none _ _ (tree_law.formula-Equal script marks s t) (list_none (codes "=") _ refl)
-formula_none script marks told scope next f (IsFormula.at_most sc n s t hs ht) = same_none _ _ (tree_law.formula-AtMost script marks s t) (list_none (codes "<=") _ refl)
-formula_none script marks told scope next f (IsFormula.same sc n a b i e ha hb) = same_none _ _ (tree_law.formula-SameArray script marks a b) (list_none (codes "=") _ refl)
-formula_none script marks told scope next f (IsFormula.negation sc n g h) = same_none _ _ (tree_law.formula-Not script marks g) (list_none (codes "not") _ refl)
-formula_none script marks told scope next f (IsFormula.conjunction sc n g h gs hs) = same_none _ _ (tree_law.formula-All script marks (g ∷ h ∷ gs)) (list_none (codes "and") _ refl)
-formula_none script marks told scope next f (IsFormula.disjunction sc n g h gs hs) = same_none _ _ (tree_law.formula-Any script marks (g ∷ h ∷ gs)) (list_none (codes "or") _ refl)
-formula_none script marks told scope next f (IsFormula.equivalence sc n g h hg hh ng nh) = same_none _ _ (tree_law.formula-Iff script marks g h) (list_none (codes "=") _ refl)
-formula_none script marks told scope next f (IsFormula.choice sc n c g h nc hc hg hh) = same_none _ _ (tree_law.formula-Choose script marks c g h) (list_none (codes "ite") _ refl)
-formula_none script marks told scope next f (IsFormula.universal sc n bs g bound h) = same_none _ _ (tree_law.formula-Forall script marks bs g) (list_none (codes "forall") _ refl)
-formula_none script marks told scope next f (IsFormula.existential sc n bs g bound h) = same_none _ _ (tree_law.formula-Exists script marks bs g) (list_none (codes "exists") _ refl)
+formula_none script marks told scope next f (IsPlaced.truth sc n b) = same_none _ _ (tree_law.formula-Truth script marks b) (truth_none b)
+formula_none script marks told scope next f (IsPlaced.atom sc n t h) = same_none _ _ (tree_law.formula-Atom script marks t) (term_none script marks told sc t _ h.sort)
+formula_none script marks told scope next f (IsPlaced.equal sc n s t e index hs ht) = same_none _ _ (tree_law.formula-Equal script marks s t) (list_none (codes "=") _ refl)
+formula_none script marks told scope next f (IsPlaced.at_most sc n s t hs ht) = same_none _ _ (tree_law.formula-AtMost script marks s t) (list_none (codes "<=") _ refl)
+formula_none script marks told scope next f (IsPlaced.same sc n a b i e ha hb) = same_none _ _ (tree_law.formula-SameArray script marks a b) (list_none (codes "=") _ refl)
+formula_none script marks told scope next f (IsPlaced.negation sc n g h) = same_none _ _ (tree_law.formula-Not script marks g) (list_none (codes "not") _ refl)
+formula_none script marks told scope next f (IsPlaced.conjunction sc n g h gs hs) = same_none _ _ (tree_law.formula-All script marks (g ∷ h ∷ gs)) (list_none (codes "and") _ refl)
+formula_none script marks told scope next f (IsPlaced.disjunction sc n g h gs hs) = same_none _ _ (tree_law.formula-Any script marks (g ∷ h ∷ gs)) (list_none (codes "or") _ refl)
+formula_none script marks told scope next f (IsPlaced.equivalence sc n g h hg hh ng nh) = same_none _ _ (tree_law.formula-Iff script marks g h) (list_none (codes "=") _ refl)
+formula_none script marks told scope next f (IsPlaced.choice sc n c g h nc hc hg hh) = same_none _ _ (tree_law.formula-Choose script marks c g h) (list_none (codes "ite") _ refl)
+formula_none script marks told scope next f (IsPlaced.universal sc n bs g bound h) = same_none _ _ (tree_law.formula-Forall script marks bs g) (list_none (codes "forall") _ refl)
+formula_none script marks told scope next f (IsPlaced.existential sc n bs g bound h) = same_none _ _ (tree_law.formula-Exists script marks bs g) (list_none (codes "exists") _ refl)
 
 -- the label of a formula with one, and of one without
 pub label_is : (script : Script) (marks : ℕ) (told : AreToldApart script marks) (label : Option (List ℕ)) (f : Formula) → IsFormula script [] 0 f → label_of (labelled_tree label (formula_tree script marks f)) ≡ Ok label

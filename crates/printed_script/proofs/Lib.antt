@@ -1,3 +1,4 @@
-pub mod Labels
 pub mod Declarations
+pub mod Labels
 pub mod Commands
+pub mod Lengths

@@ -4,10 +4,11 @@ use Rattle.std.specs.List.{fold}
 use Rattle.mbqi_terms.specs.declared.sort.Plain.{Plain}
 use Rattle.mbqi_terms.specs.declared.sort.Plain.TheVariants as plain
 use Rattle.mbqi_terms.specs.declared.term.Term.{Term}
-use Rattle.smtlib_terms.specs.Meaning.{deepest, depth_of, depth_of_term, sort_of}
-use Rattle.smtlib_terms.specs.Names.{plain_sort}
+use Rattle.smtlib_terms.specs.Meaning.{depth_of, sort_of}
+use Rattle.mbqi_terms.specs.Depth.{deepest, depth_of_term}
 use Rattle.smtlib_terms.specs.Operators.{term_meant}
 use Rattle.measured_terms.proofs.FormulaLaws.{depth-Atom}
+use Rattle.mbqi_terms.specs.Sort.{plain_sort}
 
 more_deep : (n m : ℕ) (ds : List ℕ) → n ≤ m → fold max n ds ≤ fold max m ds
 more_deep n m [] le = le

@@ -3,6 +3,7 @@ pub mod Words
 pub mod TreeLaws
 pub mod TextLaws
 pub mod Decimals
+pub mod Places
 pub mod Scopes
 pub mod Spelled
 pub mod ReadParts

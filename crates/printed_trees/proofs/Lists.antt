@@ -1,8 +1,7 @@
 -- Names by their places in lists where each stands once.
-use Rattle.std.proofs.Common.{◌≡◌, ◌≢◌, ◌<◌, ℕ, zero, suc, ◌+◌, Bool, true, false, cond, not, ltb, List, [], ◌∷◌, map, length, Some, None, All, slice_get, refl, sym, ap, ◌∙◌, subst, arith}
+use Rattle.std.proofs.Common.{◌≡◌, ◌≢◌, ◌<◌, ℕ, zero, suc, ◌+◌, Bool, true, false, cond, not, ltb, List, [], ◌∷◌, map, length, Some, None, slice_get, refl, sym, ap, ◌∙◌, subst, arith}
 use Rattle.std.specs.List.{prefix_len}
 use Rattle.std.proofs.lemmas.Bool.Decides.{nat_tests}
-use Rattle.std.proofs.lemmas.Option.{slice_get_within, get_or_from_slice_get}
 use Rattle.mbqi_terms.specs.Distinct.{AreDistinct}
 use Rattle.mbqi_terms.specs.declared.script.Function.{Function}
 use Rattle.smtlib_terms.specs.Names.{function_named, place_of}
@@ -55,7 +54,3 @@ function_at (g ∷ gs) at (suc i) f distinct e =
     let number : at + 1 + i ≡ at + suc i = omega arith in
     let found : function_named f.name (at + 1) gs ≡ Some (at + suc i, f) = later ∙ ap (λ (n : ℕ). Some (n, f)) number in
     rw other found
-
--- what all elements have, an element at a place has
-pub all_get : {X : Type 0} (P : X → Type 0) (xs : List X) (i : ℕ) (x : X) → All P xs → slice_get xs i ≡ Some x → P x
-all_get P xs i x all e = subst P (get_or_from_slice_get xs i x x e) (all i x (slice_get_within xs i x e))

@@ -21,12 +21,12 @@ use Rattle.smtlib_terms.specs.Reading.{are_binders, bindable, binder_name, binde
 use Rattle.smtlib_terms.specs.Words.{is_one_of, is_reserved, is_reserved_word, is_text}
 use Rattle.smtlib_terms.proofs.TermTrees.{trees_in-List}
 use Rattle.smtlib_terms.proofs.Texts.{other_text}
-use Rattle.printed_trees.specs.InForm.{AreBound, ArePlaced, IsVariableSort}
-use Rattle.printed_trees.specs.Means.{Means}
+use Rattle.mbqi_terms.specs.InForm.{AreBinders, ArePlaced, IsVariableSort}
 use Rattle.printed_trees.specs.Names.{AreToldApart, bindings_of, signature_of}
+use Rattle.printed_trees.proofs.ReadParts.{body_is_read}
+use Rattle.printed_trees.specs.Means.{Means}
 use Rattle.printed_trees.specs.Trees.{binder_tree, binders_tree, sort_tree, variable_tree}
 use Rattle.printed_trees.proofs.Decimals.{variables_differ}
-use Rattle.printed_trees.proofs.ReadParts.{body_is_read}
 use Rattle.printed_trees.proofs.ReadSorts.{variable_sort_means}
 
 -- a binder as it is read
@@ -63,7 +63,7 @@ one_more marks place (x ∷ xs) earlier =
 bindable_ok : (name : List ℕ) (seen : List (List ℕ)) → is_reserved name ≡ false → is_one_of seen name ≡ false → bindable name seen ≡ Ok name
 bindable_ok name seen free new = rw (free, new) refl
 
-quantifiable_ok : (script : Script) (s : Sort) → IsVariableSort script s → quantifiable s ≡ Ok s
+quantifiable_ok : (script : Script) (s : Sort) → IsVariableSort (length script.sorts) s → quantifiable s ≡ Ok s
 quantifiable_ok script sort.Truth is = absurd is
 quantifiable_ok script sort.Int is = refl
 quantifiable_ok script (sort.Elem s) is = refl
@@ -75,7 +75,7 @@ binder_first : (t : Sexpr) (ts : List Sexpr) (sorts : List (List ℕ)) (place : 
     binders_of (t ∷ ts) sorts place seen ≡ Ok (record { name = name; binder = record { place = place; sort = s } } ∷ vs)
 binder_first t ts sorts place seen s name vs e f g h = rw (e, f, g, h) refl
 
-binders_read : (script : Script) (marks next : ℕ) (bs : List Binder) (seen : List (List ℕ)) → AreToldApart script marks → ArePlaced script next bs → next + length bs ≤ 2 ^ 64 → AreEarlier marks next seen →
+binders_read : (script : Script) (marks next : ℕ) (bs : List Binder) (seen : List (List ℕ)) → AreToldApart script marks → ArePlaced (length script.sorts) next bs → next + length bs ≤ 2 ^ 64 → AreEarlier marks next seen →
     binders_of (map (binder_tree script marks) bs) script.sorts next seen ≡ Ok (map (variable_of marks) bs)
 binders_read script marks next [] seen told placed within earlier = refl
 binders_read script marks next (b ∷ bs) seen told placed within earlier =
@@ -101,12 +101,12 @@ some_binders : (script : Script) (marks : ℕ) (bs : List Binder) → 0 < length
 some_binders script marks [] some = absurd (omega arith)
 some_binders script marks (b ∷ bs) some = all_binders script marks (b ∷ bs)
 
-bound_read : (script : Script) (marks next : ℕ) (bs : List Binder) → AreToldApart script marks → AreBound script next bs → quantifier_binders (binders_tree script marks bs) script.sorts next ≡ Ok (map (variable_of marks) bs)
-bound_read script marks next bs told bound =
+bound_read : (script : Script) (marks next : ℕ) (bs : List Binder) → AreToldApart script marks → AreBinders (length script.sorts) next bs → next + length bs ≤ 2 ^ 64 → quantifier_binders (binders_tree script marks bs) script.sorts next ≡ Ok (map (variable_of marks) bs)
+bound_read script marks next bs told bound within =
     let ts = map (binder_tree script marks) bs in
     ap (λ (us : List Sexpr). cond (are_binders us) (binders_of us script.sorts next []) (Err BadForm)) (trees_in-List ts)
     ∙ (ap (λ (t : Bool). cond t (binders_of ts script.sorts next []) (Err BadForm)) (some_binders script marks bs bound.some)
-    ∙ binders_read script marks next bs [] told bound.placed bound.within tt)
+    ∙ binders_read script marks next bs [] told bound.placed within tt)
 
 -- the scope of the body
 scope_more : (marks : ℕ) (bs scope : List Binder) → map reading.binding_of (map (variable_of marks) bs) ++ bindings_of marks scope ≡ bindings_of marks (bs ++ scope)
@@ -122,13 +122,13 @@ binders_own marks [] = refl
 binders_own marks (b ∷ bs) = ap (λ (more : List Binder). b ∷ more) (binders_own marks bs)
 
 -- a quantifier
-pub quantifier_ok : (w : Word) (script : Script) (marks next : ℕ) (scope bs : List Binder) (body : Sexpr) (f : Formula) → AreToldApart script marks → AreBound script next bs →
+pub quantifier_ok : (w : Word) (script : Script) (marks next : ℕ) (scope bs : List Binder) (body : Sexpr) (f : Formula) → AreToldApart script marks → AreBinders (length script.sorts) next bs → next + length bs ≤ 2 ^ 64 →
     Means body (signature_of script) (bindings_of marks (bs ++ scope)) (next + length bs) (meaning.Formula f) →
     quantifier_read w (map part_of (binders_tree script marks bs ∷ body ∷ [])) (signature_of script) (bindings_of marks scope) next ≡ Ok (meaning.Formula (quantified w (map (variable_of marks) bs) f))
-quantifier_ok w script marks next scope bs body f told bound is =
+quantifier_ok w script marks next scope bs body f told bound within is =
     let names = signature_of script in
     let vs = map (variable_of marks) bs in
-    ap (λ (r : Result (List Variable) FaultKind). r >>= (λ (us : List Variable). body_read (map part_of (body ∷ [])) names (map reading.binding_of us ++ bindings_of marks scope) (next + length us) >>= quantified_meant w us)) (bound_read script marks next bs told bound)
+    ap (λ (r : Result (List Variable) FaultKind). r >>= (λ (us : List Variable). body_read (map part_of (body ∷ [])) names (map reading.binding_of us ++ bindings_of marks scope) (next + length us) >>= quantified_meant w us)) (bound_read script marks next bs told bound within)
     ∙ (ap (λ (sc : List Binding). body_read (map part_of (body ∷ [])) names sc (next + length vs) >>= quantified_meant w vs) (scope_more marks bs scope)
     ∙ (ap (λ (n : ℕ). body_read (map part_of (body ∷ [])) names (bindings_of marks (bs ++ scope)) (next + n) >>= quantified_meant w vs) (count_own marks bs)
     ∙ ap (λ (r : Result Meaning FaultKind). r >>= quantified_meant w vs) (body_is_read body names (bindings_of marks (bs ++ scope)) (next + length bs) (meaning.Formula f) is)))

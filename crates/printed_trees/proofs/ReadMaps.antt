@@ -21,18 +21,21 @@ use Rattle.smtlib_printer.specs.Names.{name_in}
 use Rattle.smtlib_terms.specs.declared.meaning.Meaning.{Meaning}
 use Rattle.smtlib_terms.specs.declared.meaning.Meaning.TheVariants as meaning
 use Rattle.smtlib_terms.specs.Applying.{Pointwise, are_over, arrays_of, bound_pointwise, function_pointwise, mapped, mapped_over, plain_of, pointwise_named}
-use Rattle.smtlib_terms.specs.Meaning.{varies}
-use Rattle.smtlib_terms.specs.Names.{◌>>=◌, plain_sort}
+use Rattle.mbqi_terms.specs.Varies.{varies}
+use Rattle.smtlib_terms.specs.Names.{◌>>=◌}
 use Rattle.smtlib_terms.specs.Operators.{unbound}
 use Rattle.smtlib_terms.specs.Reading.{Mapped, head_of, mapped_head}
 use Rattle.smtlib_terms.specs.Words.{is_reserved_word}
-use Rattle.printed_trees.specs.InForm.{AreArrays, IsDeclared, IsPointwise}
+use Rattle.mbqi_terms.specs.HasSort.{IsDeclared, IsPointwise}
+use Rattle.mbqi_terms.specs.InForm.{plain_lists}
+use Rattle.smtlib_terms.specs.InForm.{AreArrays}
 use Rattle.printed_trees.specs.Names.{AreSmall, AreToldApart, bindings_of, signature_of}
-use Rattle.printed_trees.specs.Trees.{map_tree, word_tree}
-use Rattle.printed_trees.proofs.Meanings.{arrays_count, arrays_meant, arrays_over, arrays_terms, unbound_ok}
 use Rattle.printed_trees.proofs.ReadParts.{list_is_head}
 use Rattle.printed_trees.proofs.Scopes.{function_found}
+use Rattle.printed_trees.specs.Trees.{map_tree, word_tree}
+use Rattle.printed_trees.proofs.Meanings.{arrays_count, arrays_meant, arrays_over, arrays_terms, unbound_ok}
 use Rattle.printed_trees.proofs.Words.{no_word}
+use Rattle.mbqi_terms.specs.Sort.{plain_sort}
 
 and_reserved : is_reserved_word (codes "and") ≡ true
 unfolding is_reserved_word
@@ -80,7 +83,7 @@ truths (suc n) [] e = absurd (omega arith)
 truths (suc n) (m ∷ ms) e = ap (λ (more : List Sort). sort.Truth ∷ more) (truths n ms (omega arith))
 
 declared_read : (script : Script) (marks : ℕ) (told : AreToldApart script marks) (scope : List Binder) (small : AreSmall scope) (number : ℕ) (es : List Plain) (e : Plain) (ms : List Meaning) →
-    IsDeclared script number (map plain_sort es) (plain_sort e) → pointwise_named (signature_of script) (bindings_of marks scope) (op_name script (op.Declared number)) ms ≡ Ok (op_pointwise (op.Declared number) es e)
+    IsDeclared (plain_lists script.functions) number (map plain_sort es) (plain_sort e) → pointwise_named (signature_of script) (bindings_of marks scope) (op_name script (op.Declared number)) ms ≡ Ok (op_pointwise (op.Declared number) es e)
 declared_read script marks told scope small number es e ms d =
     let is = function_found script marks number d.function told d.there in
     let one = no_word d.function.name (codes "and") is.no_word and_reserved in
@@ -96,7 +99,7 @@ declared_read script marks told scope small number es e ms d =
     ap (λ (o : Option Function). pointwise_named (signature_of script) (bindings_of marks scope) (name_in o) ms) d.there ∙ named
 
 pub pointwise_read : (script : Script) (marks : ℕ) (told : AreToldApart script marks) (scope : List Binder) (small : AreSmall scope) (f : MapOp) (es : List Plain) (e : Plain) (ms : List Meaning) →
-    IsPointwise script f es e → length ms ≡ length (map plain_sort es) → pointwise_named (signature_of script) (bindings_of marks scope) (op_name script f) ms ≡ Ok (op_pointwise f es e)
+    IsPointwise (plain_lists script.functions) f es e → length ms ≡ length (map plain_sort es) → pointwise_named (signature_of script) (bindings_of marks scope) (op_name script f) ms ≡ Ok (op_pointwise f es e)
 pointwise_read script marks told scope small f es e ms (IsPointwise.declared number args result d) count = declared_read script marks told scope small number args result ms d
 pointwise_read script marks told scope small f es e ms (IsPointwise.conjunction n) count =
     ap (λ (sorts : List Sort). Ok (record { op = op.And; places = sorts; result = plain.Truth })) (truths n ms count)
@@ -122,7 +125,7 @@ some_over script scope f i e (g ∷ gs) a arrays hs is =
     over_ok f i e (g ∷ gs) a arrays g gs (arrays_over script scope (a ∷ arrays) i (g ∷ gs) hs) (arrays_terms script scope (a ∷ arrays) i (g ∷ gs) hs) is
 
 pub mapped_ok : (script : Script) (marks : ℕ) (told : AreToldApart script marks) (scope : List Binder) (small : AreSmall scope) (f : MapOp) (i e : Plain) (es : List Plain) (a : ArrayTerm) (arrays : List ArrayTerm) →
-    IsPointwise script f es e → AreArrays script scope (a ∷ arrays) i es → varies (array.Map f (a ∷ arrays)) ≡ false →
+    IsPointwise (plain_lists script.functions) f es e → AreArrays script scope (a ∷ arrays) i es → varies (array.Map f (a ∷ arrays)) ≡ false →
     mapped (signature_of script) (bindings_of marks scope) (op_name script f) (arrays_meant (a ∷ arrays) i es) ≡ Ok (meaning.Array i e (array.Map f (a ∷ arrays)))
 mapped_ok script marks told scope small f i e es a arrays p hs is =
     let ms = arrays_meant (a ∷ arrays) i es in

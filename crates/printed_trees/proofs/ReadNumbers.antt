@@ -1,5 +1,5 @@
 -- How numbers and truths read.
-use Rattle.std.proofs.Common.{◌≡◌, ◌<◌, ◌≤◌, ℕ, suc, ◌-◌, ◌^◌, ℤ, pos, negsuc, Bool, true, false, cond, leb, ltb, List, [], ◌∷◌, Result, Ok, Err, ap, ◌∙◌, arith}
+use Rattle.std.proofs.Common.{◌≡◌, ◌<◌, ◌≤◌, ℕ, suc, ◌-◌, ◌^◌, ℤ, pos, negsuc, Bool, true, false, cond, ltb, List, [], ◌∷◌, Result, Ok, Err, ap, ◌∙◌, arith}
 use Rattle.std.specs.Prelude.{codes, decimal}
 use Rattle.std.proofs.lemmas.Bool.Decides.{nat_tests}
 use Rattle.mbqi_values.specs.declared.fault.FaultKind.{FaultKind}
@@ -14,7 +14,9 @@ use Rattle.smtlib_terms.specs.declared.meaning.Side.TheVariants.{Meant}
 use Rattle.smtlib_terms.specs.declared.names.Binding.{Binding}
 use Rattle.smtlib_terms.specs.declared.word.Word.TheVariants as word
 use Rattle.smtlib_terms.specs.Names.{◌>>=◌, Signature}
-use Rattle.smtlib_terms.specs.Number.{is_within}
+use Rattle.mbqi_terms.specs.Depth.{depth_of_term}
+use Rattle.mbqi_terms.specs.Limits.{is_within}
+use Rattle.smtlib_terms.specs.Meaning.{unless_deep}
 use Rattle.smtlib_terms.specs.Operators.{integer_meant, meant, subtraction}
 use Rattle.smtlib_terms.specs.Reading.{numeral}
 use Rattle.smtlib_terms.proofs.TermTrees.{side-Numeral, side-Symbol}
@@ -22,14 +24,9 @@ use Rattle.measured_terms.proofs.TermLaws.{depth-Num}
 use Rattle.printed_trees.specs.Means.{Means}
 use Rattle.printed_trees.specs.Trees.{number_tree, truth_tree}
 use Rattle.printed_trees.proofs.Decimals.{decimal_value}
-use Rattle.printed_trees.proofs.ReadParts.{le_true, one_read, word_means}
+use Rattle.smtlib_terms.proofs.Tests.{le_true, leb_le, ltb_lt}
+use Rattle.printed_trees.proofs.ReadParts.{one_read, word_means}
 use Rattle.printed_trees.proofs.Words.{minus_word}
-
-pub leb_le : (a b : ℕ) → leb a b ≡ true → a ≤ b
-leb_le a b e = grind (arith, nat_tests)
-
-pub ltb_lt : (a b : ℕ) → ltb a b ≡ true → a < b
-ltb_lt a b e = grind (arith, nat_tests)
 
 lt_ltb : (a b : ℕ) → a < b → ltb a b ≡ true
 lt_ltb a b e = grind (arith, nat_tests)
@@ -44,7 +41,7 @@ numeral_means n names scope next small =
     side-Numeral (decimal n) names scope next ∙ ap meant (numeral_read n small)
 
 negated_read : (n : ℕ) → ltb n (2 ^ 63 - 1) ≡ true → subtraction (meaning.Term sort.Int (term.Num (pos (suc n))) ∷ []) ≡ Ok (Meant (meaning.Term sort.Int (term.Num (negsuc n))))
-negated_read n within = ap (λ (t : Bool). meant (integer_meant (cond t (Ok (term.Num (negsuc n))) (Err OffsetTooWide)))) within
+negated_read n within = ap (λ (t : Bool). meant (integer_meant (cond t (Ok (term.Num (negsuc n))) (Err (unless_deep OffsetTooWide (depth_of_term (term.Num (negsuc n)))))))) within
 
 pub number_means : (n : ℤ) (names : Signature) (scope : List Binding) (next : ℕ) → is_within (2 ^ 63 - 1) n ≡ true → Means (number_tree n) names scope next (meaning.Term sort.Int (term.Num n))
 number_means (pos n) names scope next within =

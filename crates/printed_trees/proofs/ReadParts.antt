@@ -1,6 +1,5 @@
 -- How a list reads, by its head and by how its parts read.
-use Rattle.std.proofs.Common.{◌≡◌, ◌≤◌, ℕ, ◌+◌, Bool, true, cond, leb, List, [], ◌∷◌, map, Result, Ok, Err, refl, ap, ◌∙◌, arith}
-use Rattle.std.proofs.lemmas.Bool.Decides.{nat_tests}
+use Rattle.std.proofs.Common.{◌≡◌, ◌≤◌, ℕ, ◌+◌, Bool, cond, List, [], ◌∷◌, map, Result, Ok, Err, refl, ap, ◌∙◌}
 use Rattle.mbqi_values.specs.declared.fault.FaultKind.{FaultKind}
 use Rattle.mbqi_values.specs.declared.fault.FaultKind.TheVariants.{TooDeep}
 use Rattle.sexpr_text.specs.declared.tree.Sexpr.{Sexpr}
@@ -19,9 +18,7 @@ use Rattle.smtlib_terms.specs.Reading.{Head, Named, Reading, body_read, head_of,
 use Rattle.smtlib_terms.specs.Words.{word_of}
 use Rattle.smtlib_terms.proofs.TermTrees.{side-List, trees_in-List}
 use Rattle.printed_trees.specs.Means.{Means}
-
-pub le_true : (a b : ℕ) → a ≤ b → leb a b ≡ true
-le_true a b le = grind (arith, nat_tests)
+use Rattle.smtlib_terms.proofs.Tests.{le_true}
 
 -- what isn't too deep
 pub shallow_ok : (m : Meaning) → depth_of m ≤ 1000 → shallow_side (Meant m) ≡ Ok (Meant m)

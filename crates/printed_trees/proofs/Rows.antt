@@ -1,5 +1,5 @@
 -- A worked row: a script in form, with a label that is a reserved word.
-use Rattle.std.proofs.Common.{◌≡◌, ◌≤◌, ℕ, zero, suc, true, List, [], ◌∷◌, Some, slice_get, codes, refl, sym, ◌∙◌, arith}
+use Rattle.std.proofs.Common.{◌≡◌, ◌≤◌, ℕ, zero, suc, true, List, [], ◌∷◌, Some, slice_get, codes, refl, sym, ◌∙◌, arith, length, ap}
 use Rattle.std.specs.List.{list_all}
 use Rattle.std.proofs.lemmas.List.Elements.{All-from_recursion}
 use Rattle.mbqi_terms.specs.Distinct.{AreDistinct}
@@ -10,13 +10,15 @@ use Rattle.mbqi_terms.specs.declared.sort.Binder.{Binder}
 use Rattle.mbqi_terms.specs.declared.sort.Plain.TheVariants as plain
 use Rattle.mbqi_terms.specs.declared.sort.Sort.TheVariants as sort
 use Rattle.mbqi_terms.specs.declared.term.Symbol.TheVariants as symbol
+use Rattle.mbqi_terms.specs.declared.term.Term.{out-Term}
 use Rattle.mbqi_terms.specs.declared.term.Term.TheVariants as term
+use Rattle.mbqi_terms.proofs.Levels.{out-apply, out-truth}
 use Rattle.sexpr_text.specs.Bytes.{is_content, is_quoted_content}
-use Rattle.smtlib_terms.specs.Meaning.{depth_of_formula}
+use Rattle.mbqi_terms.specs.Depth.{depth_of_formula}
 use Rattle.smtlib_terms.specs.Words.{is_reserved, is_reserved_word}
-use Rattle.printed_trees.specs.InForm.{HasSort, HaveSorts, IsFormula, IsVariableSort}
-use Rattle.printed_trees.specs.Names.{IsName}
-use Rattle.printed_trees.specs.Scripts.{IsAsserted, IsInForm, IsRanked}
+use Rattle.mbqi_terms.specs.HasSort.{HasSortIn, HaveSortsIn}
+use Rattle.mbqi_terms.specs.InForm.{IsPlaced, IsRanked, IsVariableSort}
+use Rattle.smtlib_terms.specs.InForm.{HasSort, IsAsserted, IsFormula, IsInForm, IsName}
 use Rattle.measured_terms.proofs.FormulaLaws as measure
 use Rattle.measured_terms.proofs.SymbolLaws as symbol_measure
 use Rattle.measured_terms.proofs.TermLaws as term_measure
@@ -57,13 +59,17 @@ one_distinct x zero zero y e f = refl
 one_distinct x zero (suc j) y e f = cc
 one_distinct x (suc i) j y e f = cc
 
+applied : HasSort sample binders (term.Apply (symbol.Declared 0) (term.Var 0 ∷ [])) plain.Truth
+applied =
+    HasSortIn.application 0 (term.Var 0 ∷ []) (plain.Elem 0 ∷ []) plain.Truth (record { function = record { name = codes "p"; args = sort.Elem 0 ∷ []; result = sort.Truth }; there = refl; takes = refl; gives = refl })
+    (HaveSortsIn.more_terms (term.Var 0) [] (plain.Elem 0) [] (omega arith) (HasSortIn.variable 0 (plain.Elem 0) (omega arith) refl) HaveSortsIn.no_terms)
+
 in_form : IsFormula sample [] 0 (formula.Forall binders atom)
 in_form =
-    IsFormula.universal [] 0 binders atom
-    (record { some = omega arith; placed = (refl, omega arith, tt); within = omega arith })
-    (IsFormula.atom binders 1 (term.Apply (symbol.Declared 0) (term.Var 0 ∷ []))
-    (HasSort.application 0 (term.Var 0 ∷ []) (plain.Elem 0 ∷ []) plain.Truth (record { function = record { name = codes "p"; args = sort.Elem 0 ∷ []; result = sort.Truth }; there = refl; takes = refl; gives = refl })
-    (HaveSorts.more_terms (term.Var 0) [] (plain.Elem 0) [] (omega arith) (HasSort.variable 0 (plain.Elem 0) (omega arith) refl) HaveSorts.no_terms)))
+    IsPlaced.universal [] 0 binders atom
+    (record { some = omega arith; placed = (refl, omega arith, tt) })
+    (IsPlaced.atom binders 1 (term.Apply (symbol.Declared 0) (term.Var 0 ∷ []))
+    (record { sort = applied; other = λ b same. let flat = ap out-Term same in let one = out-apply (symbol.Declared 0) (term.Var 0 ∷ []) in let two = out-truth b in cc }))
 
 shallow : depth_of_formula (formula.Forall binders atom) ≤ 1000
 shallow =
@@ -82,7 +88,7 @@ sample_in_form = record {
     sorts_differ = one_distinct (codes "S");
     functions_differ = one_distinct (codes "p");
   };
-  ranked = All-from_recursion (IsRanked sample) sample.functions (record { args = All-from_recursion (IsVariableSort sample) (sort.Elem 0 ∷ []) (omega arith, tt); result = tt; array = λ no. cc }, tt);
+  ranked = All-from_recursion (IsRanked (length sample.sorts)) sample.functions (record { args = All-from_recursion (IsVariableSort (length sample.sorts)) (sort.Elem 0 ∷ []) (omega arith, tt); result = tt; array = λ no. cc }, tt);
   asserted = All-from_recursion (IsAsserted sample) sample.assertions (record { formula = in_form; depth = shallow; label = label_legal }, tt);
   labels = λ i j a b label e f g h. one_place _ i a e ∙ sym (one_place _ j b f);
 }

@@ -1,6 +1,5 @@
 -- What names stand for in the scope of a script's variables.
-use Rattle.std.proofs.Common.{◌≡◌, ◌≢◌, ◌<◌, ◌≤◌, ℕ, zero, suc, ◌+◌, ◌^◌, Bool, true, false, cond, eqb, List, [], ◌∷◌, ◌++◌, length, Option, Some, None, slice_get, refl, ap, ◌∙◌, subst, arith}
-use Rattle.std.specs.List.{list_any}
+use Rattle.std.proofs.Common.{◌≡◌, ◌≢◌, ◌<◌, ◌≤◌, ℕ, ◌+◌, ◌^◌, Bool, true, false, cond, eqb, List, [], ◌∷◌, ◌++◌, length, Option, Some, None, slice_get, refl, ap, ◌∙◌, subst, arith}
 use Rattle.std.proofs.lemmas.Bool.{or_parts}
 use Rattle.std.proofs.lemmas.Bool.Decides.{nat_tests}
 use Rattle.mbqi_terms.specs.declared.script.Function.{Function}
@@ -12,10 +11,13 @@ use Rattle.smtlib_terms.specs.declared.meaning.Bound.TheVariants.{Variable}
 use Rattle.smtlib_terms.specs.Names.{bound_to, function_named}
 use Rattle.smtlib_terms.specs.Words.{is_reserved_word, is_text}
 use Rattle.smtlib_terms.proofs.Texts.{other_text, own_text}
-use Rattle.printed_trees.specs.InForm.{AreBound, ArePlaced, sort_at}
-use Rattle.printed_trees.specs.Names.{AreSmall, AreToldApart, IsName, bindings_of, function_names}
+use Rattle.mbqi_terms.specs.HasSort.{sort_at}
+use Rattle.mbqi_terms.specs.InForm.{AreBinders, ArePlaced, function_names}
+use Rattle.smtlib_terms.specs.InForm.{IsName}
+use Rattle.smtlib_terms.proofs.Tests.{all_get, none_passes}
+use Rattle.printed_trees.specs.Names.{AreSmall, AreToldApart, bindings_of}
+use Rattle.printed_trees.proofs.Lists.{function_at, get_map}
 use Rattle.printed_trees.proofs.Decimals.{variable_begins, variables_differ}
-use Rattle.printed_trees.proofs.Lists.{all_get, function_at, get_map}
 use Rattle.printed_trees.proofs.Words.{no_reserved_word}
 
 eqb_true : (a b : ℕ) → eqb a b ≡ true → a ≡ b
@@ -63,14 +65,6 @@ name_unbound marks name (b ∷ bs) apart small =
     other_text name (variable_text marks b.place) (λ same. let e : begins_with marks name ≡ begins_with marks (variable_text marks b.place) = ap (begins_with marks) same in cc) in
     rw other (name_unbound marks name bs apart small.1)
 
--- what no item passes
-pub none_passes : {X : Type 0} (p : X → Bool) (xs : List X) (i : ℕ) (x : X) → list_any p xs ≡ false → slice_get xs i ≡ Some x → p x ≡ false
-none_passes p [] i x none e = cc
-none_passes p (y ∷ ys) zero x none e =
-    let same : y ≡ x = cc in
-    subst (λ z. p z ≡ false) same (or_parts (p y) (list_any p ys) none).0
-none_passes p (y ∷ ys) (suc i) x none e = none_passes p ys i x (or_parts (p y) (list_any p ys) none).1 e
-
 -- no name of a script is like a variable's
 function_apart : (script : Script) (marks i : ℕ) (f : Function) → is_begun script marks ≡ false → slice_get script.functions i ≡ Some f → begins_with marks f.name ≡ false
 unfolding is_begun
@@ -96,11 +90,11 @@ function_found script marks number f told e =
     }
 
 -- the binders of a quantifier are small
-placed_small : (script : Script) (next : ℕ) (bs scope : List Binder) → ArePlaced script next bs → next + length bs ≤ 2 ^ 64 → AreSmall scope → AreSmall (bs ++ scope)
+placed_small : (script : Script) (next : ℕ) (bs scope : List Binder) → ArePlaced (length script.sorts) next bs → next + length bs ≤ 2 ^ 64 → AreSmall scope → AreSmall (bs ++ scope)
 placed_small script next [] scope placed within small = small
 placed_small script next (b ∷ bs) scope placed within small =
     let below : b.place < 2 ^ 64 = let at = placed.0 in omega arith in
     (below, placed_small script (next + 1) bs scope placed.2 (omega arith) small)
 
-pub bound_small : (script : Script) (next : ℕ) (bs scope : List Binder) → AreBound script next bs → AreSmall scope → AreSmall (bs ++ scope)
-bound_small script next bs scope bound small = placed_small script next bs scope bound.placed bound.within small
+pub bound_small : (script : Script) (next : ℕ) (bs scope : List Binder) → AreBinders (length script.sorts) next bs → next + length bs ≤ 2 ^ 64 → AreSmall scope → AreSmall (bs ++ scope)
+bound_small script next bs scope bound within small = placed_small script next bs scope bound.placed within small

@@ -1,5 +1,5 @@
 -- The lines of a script's canonical text are those of its commands' S-expressions.
-use Rattle.std.proofs.Common.{◌≡◌, ℕ, Bool, true, false, List, [], ◌∷◌, ◌++◌, map, Option, None, Some, All, codes, refl, ap, ◌∙◌, subst, append_assoc}
+use Rattle.std.proofs.Common.{◌≡◌, ℕ, Bool, true, false, List, [], ◌∷◌, ◌++◌, map, Option, None, Some, All, codes, refl, ap, ◌∙◌, subst, append_assoc, length}
 use Rattle.std.specs.List.{AllByRecursion, flat_map, list_all}
 use Rattle.std.specs.Option.{IfSome}
 use Rattle.std.proofs.lemmas.List.Concat.{flat_map-append}
@@ -24,9 +24,9 @@ use Rattle.sexpr_text.proofs.Texts as written
 use Rattle.smtlib_printer.specs.Names.{marks_of, name_text}
 use Rattle.smtlib_printer.specs.Text.{formula_text_with, list_text, sort_text}
 use Rattle.smtlib_printer.proofs.Pieces.{one_part, three_parts, two_parts}
-use Rattle.printed_trees.specs.InForm.{IsVariableSort}
-use Rattle.printed_trees.specs.Names.{AreToldApart, IsName}
-use Rattle.printed_trees.specs.Scripts.{IsAsserted, IsInForm, IsRanked, IsResultSort}
+use Rattle.mbqi_terms.specs.InForm.{IsRanked, IsResultSort, IsVariableSort}
+use Rattle.smtlib_terms.specs.InForm.{IsAsserted, IsInForm, IsName}
+use Rattle.printed_trees.specs.Names.{AreToldApart, HasFewVariables, HasSmallPlaces}
 use Rattle.printed_trees.specs.Trees.{assertion_command, formula_tree, function_command, labelled_tree, question_commands, script_trees, sort_command, sort_tree}
 use Rattle.printed_trees.proofs.Assertions.{told_apart}
 use Rattle.printed_trees.proofs.Legal.{array_sort_legal, formula_legal, variable_sort_legal, word_legal}
@@ -164,7 +164,7 @@ all_map : {A : Type 0} (P : A → Type 0) (text : A → List ℕ) (command : A �
 all_map P text command [] reads all = tt
 all_map P text command (x ∷ xs) reads all = (reads x all.0, all_map P text command xs reads all.1)
 
-sort_reads : (script : Script) (marks : ℕ) → AreToldApart script marks → (s : Sort) → IsVariableSort script s → IsTextOf (sort_text script s) (sort_tree script s)
+sort_reads : (script : Script) (marks : ℕ) → AreToldApart script marks → (s : Sort) → IsVariableSort (length script.sorts) s → IsTextOf (sort_text script s) (sort_tree script s)
 sort_reads script marks told s is = written_as (sort_text script s) (sort_tree script s) (variable_sort_legal script marks s told is) (variable_sort_spelled script marks s told is)
 
 bool_simple : is_simple (codes "Bool") ≡ true
@@ -175,7 +175,7 @@ bool_symbols : list_all is_symbol_byte (codes "Bool") ≡ true
 unfolding is_symbol_byte
 bool_symbols = refl
 
-result_reads : (script : Script) (marks : ℕ) → AreToldApart script marks → (s : Sort) → IsResultSort script s → IsTextOf (sort_text script s) (sort_tree script s)
+result_reads : (script : Script) (marks : ℕ) → AreToldApart script marks → (s : Sort) → IsResultSort (length script.sorts) s → IsTextOf (sort_text script s) (sort_tree script s)
 result_reads script marks told sort.Truth is = word_reads (codes "Bool") bool_symbols bool_simple
 result_reads script marks told sort.Int is = sort_reads script marks told sort.Int is
 result_reads script marks told (sort.Elem s) is = sort_reads script marks told (sort.Elem s) is
@@ -189,12 +189,12 @@ declaration_reads name is =
 
 pub record IsFunction (script : Script) (f : Function) : Type 0 where
   pub is_name : IsName f.name
-  pub ranked : IsRanked script f
+  pub ranked : IsRanked (length script.sorts) f
 
 function_reads : (script : Script) (marks : ℕ) → AreToldApart script marks → (f : Function) → IsFunction script f → IsTextOf (function_text_of script f) (function_command script f)
 function_reads script marks told f is =
     let args = list_reads (map (sort_text script) f.args) (map (sort_tree script) f.args)
-    (all_map (IsVariableSort script) (sort_text script) (sort_tree script) f.args (sort_reads script marks told) (recursion_from_All (IsVariableSort script) f.args is.ranked.args)) in
+    (all_map (IsVariableSort (length script.sorts)) (sort_text script) (sort_tree script) f.args (sort_reads script marks told) (recursion_from_All (IsVariableSort (length script.sorts)) f.args is.ranked.args)) in
     list_reads (codes "declare-fun" ∷ name_text f.name ∷ list_text (map (sort_text script) f.args) ∷ sort_text script f.result ∷ [])
     (tree.Symbol (codes "declare-fun") ∷ tree.Symbol f.name ∷ tree.List (map (sort_tree script) f.args) ∷ sort_tree script f.result ∷ [])
     (declare_fun_reads, (name_reads f.name is.is_name.legal, (args, (result_reads script marks told f.result is.ranked.result, tt))))
@@ -205,14 +205,20 @@ labelled_reads (Some label) text t legal is =
     list_reads (codes "!" ∷ text ∷ codes ":named" ∷ name_text label ∷ []) (tree.Symbol (codes "!") ∷ t ∷ tree.Keyword (codes "named") ∷ tree.Symbol label ∷ [])
     (annotated_reads, (is, (named_reads, (name_reads label legal, tt))))
 
-assertion_reads : (script : Script) (marks : ℕ) → AreToldApart script marks → (a : Assertion) → IsAsserted script a → IsTextOf (assertion_text_of script marks a) (assertion_command script marks a)
+-- an assertion in form whose variables have small places
+pub record IsWritable (script : Script) (a : Assertion) : Type 0 where
+  pub asserted : IsAsserted script a
+  pub small : HasSmallPlaces 0 a.formula
+
+assertion_reads : (script : Script) (marks : ℕ) → AreToldApart script marks → (a : Assertion) → IsWritable script a → IsTextOf (assertion_text_of script marks a) (assertion_command script marks a)
 assertion_reads script marks told a is =
     let text = formula_text_with script marks a.formula in
     let t = formula_tree script marks a.formula in
     list_reads (codes "assert" ∷ labelled_text_of a.label text ∷ []) (tree.Symbol (codes "assert") ∷ labelled_tree a.label t ∷ []) (
       assert_reads,
       (
-        labelled_reads a.label text t is.label (written_as text t (formula_legal script marks told [] tt 0 a.formula is.formula) (formula_spelled script marks told [] tt 0 a.formula is.formula)),
+        labelled_reads a.label text t is.asserted.label
+            (written_as text t (formula_legal script marks told [] tt 0 a.formula is.asserted.formula is.small) (formula_spelled script marks told [] tt 0 a.formula is.asserted.formula is.small)),
         tt,
       ),
     )
@@ -221,22 +227,25 @@ questions_read : (asks : Bool) → AllTexts (question_texts asks) (question_comm
 questions_read true = (list_reads (codes "check-sat" ∷ []) (tree.Symbol (codes "check-sat") ∷ []) (question_reads, tt), tt)
 questions_read false = tt
 
-functions_are : (script : Script) (fs : List Function) → AllByRecursion IsName (map (λ (f : Function). f.name) fs) → AllByRecursion (IsRanked script) fs → AllByRecursion (IsFunction script) fs
+functions_are : (script : Script) (fs : List Function) → AllByRecursion IsName (map (λ (f : Function). f.name) fs) → AllByRecursion (IsRanked (length script.sorts)) fs → AllByRecursion (IsFunction script) fs
 functions_are script [] names ranks = tt
 functions_are script (f ∷ fs) names ranks = (record { is_name = names.0; ranked = ranks.0 }, functions_are script fs names.1 ranks.1)
 
-pub script_reads : (script : Script) → IsInForm script → AllTexts (script_texts script) (script_trees script)
-script_reads script form =
+pub assertions_are : (script : Script) → IsInForm script → HasFewVariables script → All (IsWritable script) script.assertions
+assertions_are script form few i d within = record { asserted = form.asserted i d within; small = few i d within }
+
+pub script_reads : (script : Script) → IsInForm script → HasFewVariables script → AllTexts (script_texts script) (script_trees script)
+script_reads script form few =
     let told = told_apart script form.named in
     let marks = marks_of script in
     all_append _ _ _ _ (all_map IsName sort_text_of sort_command script.sorts declaration_reads (recursion_from_All IsName script.sorts form.named.sorts))
     (all_append _ _ _ _ (all_map (IsFunction script) (function_text_of script) (function_command script) script.functions (function_reads script marks told)
-    (functions_are script script.functions (recursion_from_All IsName _ form.named.functions) (recursion_from_All (IsRanked script) script.functions form.ranked)))
-    (all_append _ _ _ _ (all_map (IsAsserted script) (assertion_text_of script marks) (assertion_command script marks) script.assertions (assertion_reads script marks told) (recursion_from_All (IsAsserted script) script.assertions form.asserted))
+    (functions_are script script.functions (recursion_from_All IsName _ form.named.functions) (recursion_from_All (IsRanked (length script.sorts)) script.functions form.ranked)))
+    (all_append _ _ _ _ (all_map (IsWritable script) (assertion_text_of script marks) (assertion_command script marks) script.assertions (assertion_reads script marks told) (recursion_from_All (IsWritable script) script.assertions (assertions_are script form few)))
     (questions_read script.asks)))
 
 -- the text of a script has its commands as its forms
-pub script_forms : (script : Script) → IsInForm script → All IsShallow (script_trees script) → (forms : List Form) × HaveForms (script_text script) forms × (map (λ (form : Form). form.tree) forms ≡ script_trees script)
-script_forms script form shallow =
-    let read = lines_read (script_texts script) (script_trees script) (script_reads script form) (recursion_from_All IsShallow (script_trees script) shallow) in
+pub script_forms : (script : Script) → IsInForm script → HasFewVariables script → All IsShallow (script_trees script) → (forms : List Form) × HaveForms (script_text script) forms × (map (λ (form : Form). form.tree) forms ≡ script_trees script)
+script_forms script form few shallow =
+    let read = lines_read (script_texts script) (script_trees script) (script_reads script form few) (recursion_from_All IsShallow (script_trees script) shallow) in
     (read.0, subst (λ (bytes : List ℕ). HaveForms bytes read.0) (script_lines script) read.1, read.2)

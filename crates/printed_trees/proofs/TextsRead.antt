@@ -1,5 +1,5 @@
 -- A text of which each name may stand between bars is read as its S-expression, in any place.
-use Rattle.std.proofs.Common.{◌≡◌, ℕ, ◌+◌, ◌-◌, Bool, true, false, cond, ◌&&◌, not, List, [], ◌∷◌, ◌++◌, map, length, codes, refl, sym, ap, ◌∙◌, subst, arith, append_assoc, length-append, inl, inr}
+use Rattle.std.proofs.Common.{◌≡◌, ℕ, ◌+◌, Bool, true, false, cond, ◌&&◌, not, List, [], ◌∷◌, ◌++◌, map, length, codes, refl, sym, ap, ◌∙◌, subst, arith, append_assoc, length-append, inl, inr}
 use Rattle.std.specs.List.{flat_map, list_all, AllByRecursion}
 use Rattle.std.proofs.Math.Seq.{drop-append_seam}
 use Rattle.sexpr_text.specs.Bytes.{is_quoted_content}
@@ -10,7 +10,6 @@ use Rattle.sexpr_text.specs.Legal.{is_legal}
 use Rattle.sexpr_text.specs.Lexis.{Placed, Ended, Next, lexed_from, open_limit}
 use Rattle.sexpr_text.specs.Text.{is_simple, text_of}
 use Rattle.sexpr_text.specs.declared.token.Front.TheVariants as front
-use Rattle.sexpr_text.specs.declared.token.Token.{Token}
 use Rattle.sexpr_text.specs.declared.token.Token.TheVariants.{Open, Close, Atom}
 use Rattle.sexpr_text.specs.declared.tree.Form.{Form}
 use Rattle.sexpr_text.specs.declared.tree.Sexpr.{Sexpr}

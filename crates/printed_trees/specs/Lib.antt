@@ -1,5 +1,3 @@
 pub mod Trees
 pub mod Names
-pub mod InForm
 pub mod Means
-pub mod Scripts

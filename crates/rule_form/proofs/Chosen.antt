@@ -1,5 +1,5 @@
 -- Instances at terms of the pool, and those of rules without variables.
-use Rattle.std.proofs.Common.{◌≡◌, ℕ, zero, suc, ◌+◌, Bool, true, false, List, [], ◌∷◌, ◌++◌, length, refl, sym, ap, subst, ◌∙◌, inl, inr, arith, cond}
+use Rattle.std.proofs.Common.{◌≡◌, ℕ, zero, suc, ◌+◌, ◌<◌, Bool, true, false, List, [], ◌∷◌, ◌++◌, length, refl, sym, ap, subst, ◌∙◌, inl, inr, arith, cond}
 use Rattle.std.specs.Prelude.{◌⊎◌, All, Contains, Some, slice_get}
 use Rattle.std.specs.List.{AllByRecursion}
 use Rattle.std.proofs.lemmas.List.Elements.{All-head, All-tail, All-nil, All-cons}
@@ -13,12 +13,12 @@ use Rattle.mbqi_terms.specs.declared.term.Term.{Term}
 use Rattle.mbqi_terms.proofs.Places.{all_at}
 use Rattle.ground_form.specs.Atoms.{formulas_in}
 use Rattle.ground_form.specs.Profile.{IsArgument, IsClause, IsConstant, IsConstantTerm, IsElementary, IsGround, IsPredicate, IsRule, constant, constants_from, constants_of, for_all, is_constant, is_element, seed}
-use Rattle.rule_form.specs.Instance.{IsInstance}
+use Rattle.rule_form.specs.Instance.{IsInstance, whole_at}
 use Rattle.rule_form.specs.Rules.{IsChoice, assertion_at, clause_at, clause_of, first_from, first_with, formula_of, line_of, lines_of, pool_terms, term_at, variables_of}
 use Rattle.rule_form.specs.declared.choice.Choice.{Choice}
 use Rattle.rule_form.proofs.Putting.{closed_clause, ground_clause}
 use Rattle.rule_form.proofs.Rests.{AtFrom, from_first, from_here, from_next}
-use Rattle.rule_form.proofs.RuleInstances.{rule_instance}
+use Rattle.rule_form.proofs.RuleInstances.{rule_instance, whole_rule}
 use Rattle.rule_form.proofs.Shapes.{rule_clause, rule_variables}
 
 -- each term of the pool is a constant or the seed
@@ -85,7 +85,23 @@ module _ (script : Script) (is : IsElementary script) where
 
   pub chosen_formula : (choice : Choice) (c : Chosen choice) → (line_of script.assertions choice).formula ≡ clause_at c.rule.1 choice.terms
   chosen_formula choice c =
-      ap (λ f. clause_at f choice.terms) (ap (λ o. clause_of (formula_of o)) c.there ∙ rule_clause script.functions c.assertion.formula c.rule)
+      ap (λ o. whole_at choice.rule (formula_of o) choice.terms) c.there ∙ whole_rule script.functions choice.rule c.assertion.formula choice.terms c.rule c.as_many
+
+  -- the whole instance of a choice is its clause with the terms of the choice
+  pub line_clause : (choice : Choice) → IsChoice script choice
+      → (line_of script.assertions choice).formula ≡ clause_at (clause_of (assertion_at script.assertions choice.rule)) choice.terms
+  line_clause choice legal =
+      let c = chosen choice legal in
+      chosen_formula choice c
+      ∙ sym (ap (λ f. clause_at f choice.terms) (ap (λ o. clause_of (formula_of o)) c.there ∙ rule_clause script.functions c.assertion.formula c.rule))
+
+  -- there is a sort where there is an assertion
+  some_sort : (k : ℕ) (a : Assertion) → slice_get script.assertions k ≡ Some a → 0 < length script.sorts
+  some_sort k a there = by script.sorts refl
+    where
+      by : (sorts : List (List ℕ)) → script.sorts ≡ sorts → 0 < length sorts
+      by [] e = let none : slice_get [] k ≡ Some a = subst (λ as'. slice_get as' k ≡ Some a) (is.named e).1 there in cc
+      by (sort ∷ sorts) e = omega arith
 
   -- the clause of a choice has the terms of the choice in the places of its variables
   pub chosen_clause : (choice : Choice) (c : Chosen choice)
@@ -98,13 +114,14 @@ module _ (script : Script) (is : IsElementary script) where
   pub line_ground : (choice : Choice) → IsChoice script choice → IsClause script.functions (IsGround script.functions) (line_of script.assertions choice).formula
   line_ground choice legal =
       let c = chosen choice legal in
-      ground_clause script.functions choice.terms c.ground (clause_of (assertion_at script.assertions choice.rule)) (chosen_clause choice c)
+      subst (IsClause script.functions (IsGround script.functions)) (sym (line_clause choice legal))
+      (ground_clause script.functions choice.terms c.ground (clause_of (assertion_at script.assertions choice.rule)) (chosen_clause choice c))
 
   line_instance : (choice : Choice) → IsChoice script choice → IsInstance script choice.rule choice.terms (line_of script.assertions choice).formula
   line_instance choice legal =
       let c = chosen choice legal in
-      subst (IsInstance script choice.rule choice.terms) (sym (chosen_formula choice c))
-      (rule_instance script choice.rule c.assertion choice.terms c.there c.rule c.as_many c.ground)
+      subst (λ o. IsInstance script choice.rule choice.terms (whole_at choice.rule (formula_of o) choice.terms)) (sym c.there)
+      (rule_instance script choice.rule c.assertion choice.terms c.there c.rule (some_sort choice.rule c.assertion c.there) c.as_many c.ground)
 
   pub lines_ground : (choices : List Choice) → All (IsChoice script) choices
       → All (IsClause script.functions (IsGround script.functions)) (formulas_in (lines_of script.assertions choices))
@@ -134,15 +151,19 @@ module _ (script : Script) (is : IsElementary script) where
       subst (IsClause script.functions (IsGround script.functions)) (closed_clause script.functions (term_at []) f clause)
       (ground_clause script.functions [] (All-nil (IsGround script.functions)) f clause)
 
+  -- its whole instance is the assertion itself
+  pub itself_whole : (k : ℕ) (f : Formula) → IsRule script.functions f → variables_of f ≡ 0 → whole_at k f [] ≡ f
+  itself_whole k f rule none =
+      let clause = without f rule none in
+      let e : f ≡ rule.1 = rule.2 ∙ ap (λ n. for_all n rule.1) (sym (rule_variables script.functions f rule) ∙ none) in
+      let zero_is : 0 ≡ rule.0 = sym none ∙ rule_variables script.functions f rule in
+      whole_rule script.functions k f [] rule zero_is ∙ ap (λ f. clause_at f []) (sym e) ∙ closed_clause script.functions (term_at []) f clause
+
   itself_instance : (k : ℕ) (a : Assertion) → slice_get script.assertions k ≡ Some a → IsRule script.functions a.formula → variables_of a.formula ≡ 0
-      → IsInstance script k [] a.formula
+      → IsInstance script k [] (whole_at k a.formula [])
   itself_instance k a there rule none =
-      let clause = without a.formula rule none in
-      let e : a.formula ≡ rule.1 = rule.2 ∙ ap (λ n. for_all n rule.1) (sym (rule_variables script.functions a.formula rule) ∙ none) in
       let zero_is : 0 ≡ rule.0 = sym none ∙ rule_variables script.functions a.formula rule in
-      let same : clause_at rule.1 [] ≡ a.formula =
-      ap (λ f. clause_at f []) (sym e) ∙ closed_clause script.functions (term_at []) a.formula clause in
-      subst (IsInstance script k []) same (rule_instance script k a [] there rule zero_is (All-nil (IsGround script.functions)))
+      rule_instance script k a [] there rule (some_sort k a there) zero_is (All-nil (IsGround script.functions))
 
   first_ground : (k : ℕ) (assertions : List Assertion) → AllByRecursion (λ (a : Assertion). IsRule script.functions a.formula) assertions
       → All (IsClause script.functions (IsGround script.functions)) (formulas_in (first_from k assertions))
@@ -150,9 +171,10 @@ module _ (script : Script) (is : IsElementary script) where
   first_ground k (a ∷ assertions) all = by (variables_of a.formula) refl (first_ground (k + 1) assertions all.1)
     where
       by : (n : ℕ) → variables_of a.formula ≡ n → All (IsClause script.functions (IsGround script.functions)) (formulas_in (first_from (k + 1) assertions))
-          → All (IsClause script.functions (IsGround script.functions)) (formulas_in (first_with n k a.formula (first_from (k + 1) assertions)))
+          → All (IsClause script.functions (IsGround script.functions)) (formulas_in (first_with n k (whole_at k a.formula []) (first_from (k + 1) assertions)))
       by zero none rest =
-          All-cons (IsClause script.functions (IsGround script.functions)) a.formula (formulas_in (first_from (k + 1) assertions)) (itself_ground a.formula all.0 none) rest
+          All-cons (IsClause script.functions (IsGround script.functions)) (whole_at k a.formula []) (formulas_in (first_from (k + 1) assertions))
+          (subst (IsClause script.functions (IsGround script.functions)) (sym (itself_whole k a.formula all.0 none)) (itself_ground a.formula all.0 none)) rest
       by (suc n) some rest = rest
 
   first_instances : (k : ℕ) (assertions : List Assertion) → AtFrom script.assertions k assertions
@@ -164,9 +186,9 @@ module _ (script : Script) (is : IsElementary script) where
     where
       by : (n : ℕ) → variables_of a.formula ≡ n
           → All (λ (line : InstanceLine). IsInstance script line.assertion line.terms line.formula) (first_from (k + 1) assertions)
-          → All (λ (line : InstanceLine). IsInstance script line.assertion line.terms line.formula) (first_with n k a.formula (first_from (k + 1) assertions))
+          → All (λ (line : InstanceLine). IsInstance script line.assertion line.terms line.formula) (first_with n k (whole_at k a.formula []) (first_from (k + 1) assertions))
       by zero none rest =
-          All-cons (λ (line : InstanceLine). IsInstance script line.assertion line.terms line.formula) (record { assertion = k; terms = []; formula = a.formula })
+          All-cons (λ (line : InstanceLine). IsInstance script line.assertion line.terms line.formula) (record { assertion = k; terms = []; formula = whole_at k a.formula [] })
           (first_from (k + 1) assertions) (itself_instance k a (from_here script.assertions k a assertions at) all.0 none) rest
       by (suc n) some rest = rest
 

@@ -19,7 +19,7 @@ use Rattle.ground_form.proofs.Numbers.{same_declared}
 use Rattle.mbqi_terms.specs.declared.term.Term.TheVariants as term
 use Rattle.ground_form.specs.Profile.{IsArgument, IsAtom, IsClause, IsGround, IsLiteral, constant}
 use Rattle.rule_form.specs.Rules.{term_at, clause_at}
-use Rattle.rule_form.specs.Substitution.{put_into, put_into_formula, put_formula_layer}
+use Rattle.mbqi_terms.specs.Substitution.{put_into, put_into_formula, put_formula_layer}
 
 -- nothing is put into a constant, and a variable becomes its term
 pub put_constant : (at : ℕ → Term) (c : ℕ) → put_into at (constant c) ≡ constant c

@@ -3,13 +3,12 @@ use Rattle.std.proofs.Common.{◌≡◌, ℕ, zero, suc, ◌+◌, ◌<◌, Bool,
 use Rattle.std.specs.Prelude.{◌==◌, All, Some, slice_get, slice_index_or}
 use Rattle.std.specs.List.{AllZip, flat_map}
 use Rattle.std.proofs.lemmas.List.Elements.{All-head, All-tail}
-use Rattle.std.specs.Option.{option_map}
-use Rattle.mbqi_terms.specs.Lists.{layer_sort, result_of, sort_of_term, sum_sort, symbol_layer_sort}
-use Rattle.mbqi_terms.specs.Tree.{IsPart}
+use Rattle.mbqi_terms.specs.HasSort.{HasSortIn, HaveSortsIn, IsDeclared}
+use Rattle.mbqi_terms.specs.InForm.{free_setting}
+use Rattle.mbqi_terms.specs.ScriptLists.{lists_of}
+use Rattle.mbqi_terms.specs.declared.sort.Plain.TheVariants as plain
 use Rattle.mbqi_terms.specs.declared.formula.Formula as formulas
 use Rattle.mbqi_terms.specs.declared.formula.Formula.{Formula}
-use Rattle.mbqi_terms.specs.declared.formula.Formula.TheBlock.{hidden-the_row-Formula-0, hidden-the_row-Formula-1}
-use denote.Hole.Carrier.{hidden}
 use Rattle.mbqi_terms.specs.declared.formula.Formula.TheFolds.{fold-roll-Formula}
 use Rattle.mbqi_terms.specs.declared.formula.Formula.TheOpen.{Formula-F}
 use Rattle.mbqi_terms.specs.declared.formula.Formula.TheVariants as formula
@@ -18,80 +17,13 @@ use Rattle.mbqi_terms.specs.declared.script.Assertion.{Assertion}
 use Rattle.mbqi_terms.specs.declared.script.Function.{Function}
 use Rattle.mbqi_terms.specs.declared.script.Script.{Script}
 use Rattle.mbqi_terms.specs.declared.sort.Binder.{Binder}
-use Rattle.mbqi_terms.specs.declared.term.ArrayTerm.TheOpen.{Term-F}
-use Rattle.mbqi_terms.specs.declared.term.Symbol.{Symbol}
-use Rattle.mbqi_terms.specs.declared.term.Symbol.TheVariants as symbol
-use Rattle.mbqi_terms.specs.declared.term.Term.{Term, out-Term}
+use Rattle.mbqi_terms.specs.declared.term.Term.{Term}
 use Rattle.mbqi_terms.specs.declared.term.Term.TheVariants as term
-use Rattle.mbqi_terms.proofs.Levels.{out-apply, out-declared, out-seed}
-use Rattle.ground_form.specs.Profile.{IsArgument, IsClause, IsGround, IsLiteral, IsRule, constant, seed, for_all, variables_from, the_sort}
-use Rattle.rule_form.specs.Instance.{Instantiation, InstanceAt, EachInstance, HasNoVariable, IsInstance, IsTermFor, below_universal, is_bound, lists_of, start, term_for, universal_layer, universals_at}
+use Rattle.ground_form.specs.Profile.{IsArgument, IsClause, IsGround, IsLiteral, IsRule, for_all, variables_from, the_sort}
+use Rattle.rule_form.specs.Instance.{IsInstance, IsTermFor, below_universal, is_bound, start, term_for, whole, whole_at}
+use Rattle.rule_form.proofs.Wholes.{clause_whole, whole_forall, whole_is}
 use Rattle.rule_form.specs.Rules.{term_at, clause_at}
-use Rattle.rule_form.specs.Substitution.{put_into, put_into_formula}
-use Rattle.rule_form.proofs.Putting.{put_atom, put_not, put_any, alike_atom}
-
--- one instance of each of a list of formulas
-abbrev EachOf : Instantiation → List Formula → List Formula → Type 0
-EachOf i [] [] = Unit {0}
-EachOf i [] (g ∷ gs) = ⊥
-EachOf i (f ∷ fs) [] = ⊥
-EachOf i (f ∷ fs) (g ∷ gs) = InstanceAt i true f g × EachOf i fs gs
-
-abbrev each_in : Instantiation → Formula → List Formula → Type 0
-each_in i (formula.Any' n row) gs = EachInstance i true row gs
-each_in i other gs = ⊥
-
-each_any : (i : Instantiation) (fs gs : List Formula) → EachOf i fs gs → each_in i (formula.Any fs) gs
-unfolding InstanceAt hidden-the_row-Formula-0 hidden hidden-the_row-Formula-1
-each_any i [] [] h = tt
-each_any i [] (g ∷ gs) h = absurd h
-each_any i (f ∷ fs) [] h = absurd h
-each_any i (f ∷ fs) (g ∷ gs) h = (h.0, each_any i fs gs h.1)
-
-instance_any : (i : Instantiation) (fs gs : List Formula) → EachOf i fs gs → InstanceAt i true (formula.Any fs) (formula.Any gs)
-unfolding InstanceAt hidden-the_row-Formula-0 hidden hidden-the_row-Formula-1
-instance_any i fs gs h = (gs, refl, each_any i fs gs h)
-
-instance_atom : (i : Instantiation) (t g : Term) → g ≡ put_into i.at t → InstanceAt i true (formula.Atom t) (formula.Atom g)
-unfolding InstanceAt hidden-the_row-Formula-0 hidden hidden-the_row-Formula-1
-instance_atom i t g e = ap formula.Atom e
-
-instance_not_atom : (i : Instantiation) (t g : Term) → g ≡ put_into i.at t → InstanceAt i true (formula.Not (formula.Atom t)) (formula.Not (formula.Atom g))
-unfolding InstanceAt hidden-the_row-Formula-0 hidden hidden-the_row-Formula-1
-instance_not_atom i t g e = ap (λ u. formula.Not (formula.Atom u)) e
-
-instance_forall : (i : Instantiation) (bs : List Binder) (f g : Formula) → InstanceAt (below_universal bs i) true f g → InstanceAt i true (formula.Forall bs f) g
-unfolding InstanceAt hidden-the_row-Formula-0 hidden hidden-the_row-Formula-1
-instance_forall i bs f g h = h
-
--- a clause with terms in the places of its variables is an instance of it where the instantiation has these terms
-module _ (functions : List Function) (n : ℕ) (ts : List Term) (i : Instantiation) (same : (place : ℕ) → place < n → term_at ts place ≡ i.at place) where
-  literal_instance : (f : Formula) → IsLiteral functions (IsArgument functions n) f → InstanceAt i true f (clause_at f ts)
-  literal_instance f is = elim is.2 [
-    | inl e ↦
-        let P : Formula → Type 0 = λ g. InstanceAt i true g (clause_at g ts) in
-        subst P (sym e) (subst (InstanceAt i true (formula.Atom is.0)) (sym (put_atom (term_at ts) is.0))
-        (instance_atom i is.0 (put_into (term_at ts) is.0) (alike_atom functions n (term_at ts) i.at same is.0 is.1)))
-    | inr e ↦
-        let P : Formula → Type 0 = λ g. InstanceAt i true g (clause_at g ts) in
-        subst P (sym e) (subst (InstanceAt i true (formula.Not (formula.Atom is.0)))
-        (sym (put_not (term_at ts) (formula.Atom is.0) ∙ ap formula.Not (put_atom (term_at ts) is.0)))
-        (instance_not_atom i is.0 (put_into (term_at ts) is.0) (alike_atom functions n (term_at ts) i.at same is.0 is.1)))
-  ]
-
-  literal_instances : (fs : List Formula) → All (IsLiteral functions (IsArgument functions n)) fs → EachOf i fs (map (put_into_formula (term_at ts)) fs)
-  literal_instances [] all = tt
-  literal_instances (f ∷ fs) all = (
-    literal_instance f (All-head (IsLiteral functions (IsArgument functions n)) f fs all),
-    literal_instances fs (All-tail (IsLiteral functions (IsArgument functions n)) f fs all),
-  )
-
-  clause_instance : (f : Formula) → IsClause functions (IsArgument functions n) f → InstanceAt i true f (clause_at f ts)
-  clause_instance f (inl one) = literal_instance f one
-  clause_instance f (inr any) =
-      let P : Formula → Type 0 = λ g. InstanceAt i true g (clause_at g ts) in
-      subst P (sym any.1) (subst (InstanceAt i true (formula.Any any.0)) (sym (put_any (term_at ts) any.0))
-      (instance_any i any.0 (map (put_into_formula (term_at ts)) any.0) (literal_instances any.0 any.2)))
+use Rattle.mbqi_terms.specs.Binders.{universal_layer, universals_at}
 
 -- the universal variables of a rule are those of its quantifier
 no_universal_atom : (t : Term) (b : Bool) → universals_at (formula.Atom t) b ≡ []
@@ -134,48 +66,30 @@ module _ (functions : List Function) (IsArg : Term → Type 0) where
       universals_forall (variables_from 0 (suc n)) f ∙ (ap (λ bs. variables_from 0 (suc n) ++ bs) (no_universal f true is) ∙ append-nil (variables_from 0 (suc n)))
 
 -- a constant or the seed is a ground term of the sort
-only_itself : (s : Symbol) (t part : Term) → t ≡ term.Apply s [] → IsPart part t → part ≡ t
-only_itself s t part e (IsPart.itself u) = refl
-only_itself s t part e (IsPart.of_sum p v u n o rest) =
-    let layers : Term-F.Plus u n ≡ Term-F.Apply s [] = sym o ∙ (ap out-Term e ∙ out-apply s []) in cc
-only_itself s t part e (IsPart.of_argument p v u f us o there rest) =
-    let layers : Term-F.Apply f us ≡ Term-F.Apply s [] = sym o ∙ (ap out-Term e ∙ out-apply s []) in
-    let none : us ≡ [] = cc in
-    absurd (omega (arith, there.1, ap length none))
-only_itself s t part e (IsPart.of_index p v u a o rest) =
-    let layers : Term-F.Read a u ≡ Term-F.Apply s [] = sym o ∙ (ap out-Term e ∙ out-apply s []) in cc
+ground_term : (script : Script) (binder : Binder) (t : Term) → binder.sort ≡ the_sort → 0 < length script.sorts → IsGround script.functions t → IsTermFor script binder t
+ground_term script binder t e some (inl named) =
+    let is : IsDeclared (lists_of script) named.0 [] the_sort =
+    record { function = named.2.0; there = named.2.1; takes = named.2.2.1; gives = named.2.2.0 } in
+    record {
+      sort = plain.Elem 0;
+      same = e;
+      ground = subst (λ u. HasSortIn (free_setting script) [] u (plain.Elem 0)) (sym named.1) (HasSortIn.application named.0 [] [] (plain.Elem 0) is HaveSortsIn.no_terms);
+    }
+ground_term script binder t e some (inr last) = record {
+  sort = plain.Elem 0;
+  same = e;
+  ground = subst (λ u. HasSortIn (free_setting script) [] u (plain.Elem 0)) (sym last) (HasSortIn.seed 0 refl some);
+}
 
-no_variable : (s : Symbol) (t part : Term) → t ≡ term.Apply s [] → IsPart part t → HasNoVariable (out-Term part)
-no_variable s t part e is =
-    subst HasNoVariable (sym (ap out-Term (only_itself s t part e is ∙ e) ∙ out-apply s [])) tt
-
-constant_sort : (functions : List Function) (c : ℕ) → sort_of_term (lists_of functions) (constant c) ≡ result_of functions c
-constant_sort functions c =
-    let s : layer_sort (lists_of functions) (Term-F.Apply (symbol.Declared c) []) ≡ result_of functions c =
-    ap (symbol_layer_sort (lists_of functions)) (out-declared c) in
-    ap (sum_sort (lists_of functions)) (out-apply (symbol.Declared c) []) ∙ s
-
-seed_sort : (functions : List Function) → sort_of_term (lists_of functions) seed ≡ Some the_sort
-seed_sort functions = ap (sum_sort (lists_of functions)) (out-apply (symbol.Seed 0) []) ∙ ap (symbol_layer_sort (lists_of functions)) (out-seed 0)
-
-ground_term : (functions : List Function) (binder : Binder) (t : Term) → binder.sort ≡ the_sort → IsGround functions t → IsTermFor functions binder t
-ground_term functions binder t e (inl named) = (
-  λ part is. no_variable (symbol.Declared named.0) t part named.1 is,
-  ap (sort_of_term (lists_of functions)) named.1 ∙ (constant_sort functions named.0 ∙ (ap (option_map (λ function. function.result)) named.2.1
-      ∙ (ap Some named.2.2.0 ∙ ap Some (sym e)))),
-)
-ground_term functions binder t e (inr last) =
-    (λ part is. no_variable (symbol.Seed 0) t part last is, ap (sort_of_term (lists_of functions)) last ∙ (seed_sort functions ∙ ap Some (sym e)))
-
-ground_terms : (functions : List Function) (place n : ℕ) (ts : List Term) → length ts ≡ n → All (IsGround functions) ts
-    → AllZip (IsTermFor functions) (variables_from place n) ts
-ground_terms functions place zero [] e all = tt
-ground_terms functions place zero (t ∷ ts) e all = cc
-ground_terms functions place (suc n) [] e all = cc
-ground_terms functions place (suc n) (t ∷ ts) e all =
+ground_terms : (script : Script) (place n : ℕ) (ts : List Term) → 0 < length script.sorts → length ts ≡ n → All (IsGround script.functions) ts
+    → AllZip (IsTermFor script) (variables_from place n) ts
+ground_terms script place zero [] some e all = tt
+ground_terms script place zero (t ∷ ts) some e all = cc
+ground_terms script place (suc n) [] some e all = cc
+ground_terms script place (suc n) (t ∷ ts) some e all =
     let rest : length ts ≡ n = omega (arith, e) in (
-      ground_term functions (record { place = place; sort = the_sort }) t refl (All-head (IsGround functions) t ts all),
-      ground_terms functions (place + 1) n ts rest (All-tail (IsGround functions) t ts all),
+      ground_term script (record { place = place; sort = the_sort }) t refl some (All-head (IsGround script.functions) t ts all),
+      ground_terms script (place + 1) n ts some rest (All-tail (IsGround script.functions) t ts all),
     )
 
 -- the variables of a rule have the terms of their places
@@ -214,27 +128,31 @@ below_at k n ts place e h =
     subst (λ p. term_for (variables_from 0 n) ts p ≡ slice_index_or ts place (term.Var place)) z (given_at (term.Var place) 0 n ts place e h) in
     sym (ap (λ b. cond b (term_for (variables_from 0 n) ts place) (term.Var place)) bound ∙ given)
 
-instance_at : (functions : List Function) (k n : ℕ) (f : Formula) (ts : List Term) → IsClause functions (IsArgument functions n) f → length ts ≡ n
-    → InstanceAt (start k (term_for (variables_from 0 n) ts)) true (for_all n f) (clause_at f ts)
-instance_at functions k zero f ts is e =
-    clause_instance functions 0 ts (start k (term_for [] ts)) (λ place h. absurd (omega (arith, h))) f is
-instance_at functions k (suc n) f ts is e =
+-- the whole instance of a rule is its clause with the terms
+whole_clause : (functions : List Function) (k n : ℕ) (f : Formula) (ts : List Term) → IsClause functions (IsArgument functions n) f → length ts ≡ n
+    → whole (start k (term_for (variables_from 0 n) ts)) true (for_all n f) ≡ clause_at f ts
+whole_clause functions k zero f ts is e =
+    clause_whole functions 0 ts (start k (term_for [] ts)) (λ place h. absurd (omega (arith, h))) f is
+whole_clause functions k (suc n) f ts is e =
     let i = start k (term_for (variables_from 0 (suc n)) ts) in
-    instance_forall i (variables_from 0 (suc n)) f (clause_at f ts)
-    (clause_instance functions (suc n) ts (below_universal (variables_from 0 (suc n)) i) (λ place h. below_at k (suc n) ts place e h) f is)
+    whole_forall i (variables_from 0 (suc n)) f
+    ∙ clause_whole functions (suc n) ts (below_universal (variables_from 0 (suc n)) i) (λ place h. below_at k (suc n) ts place e h) f is
+
+pub whole_rule : (functions : List Function) (k : ℕ) (f : Formula) (ts : List Term) (is : IsRule functions f) → length ts ≡ is.0 → whole_at k f ts ≡ clause_at is.1 ts
+whole_rule functions k f ts is e =
+    let universals : universals_at f true ≡ variables_from 0 is.0 =
+    ap (λ g. universals_at g true) is.2 ∙ rule_universals functions (IsArgument functions is.0) is.0 is.1 is.3 in
+    ap (λ bs. whole (start k (term_for bs ts)) true f) universals
+    ∙ ap (whole (start k (term_for (variables_from 0 is.0) ts)) true) is.2 ∙ whole_clause functions k is.0 is.1 ts is.3 e
 
 -- the instance of a rule at ground terms is an instance of its assertion
 pub rule_instance : (script : Script) (k : ℕ) (a : Assertion) (ts : List Term) → slice_get script.assertions k ≡ Some a → (is : IsRule script.functions a.formula)
-    → length ts ≡ is.0 → All (IsGround script.functions) ts → IsInstance script k ts (clause_at is.1 ts)
-rule_instance script k a ts there is e ground =
+    → 0 < length script.sorts → length ts ≡ is.0 → All (IsGround script.functions) ts → IsInstance script k ts (whole_at k a.formula ts)
+rule_instance script k a ts there is some e ground =
     let universals : universals_at a.formula true ≡ variables_from 0 is.0 =
-    ap (λ f. universals_at f true) is.2 ∙ rule_universals script.functions (IsArgument script.functions is.0) is.0 is.1 is.3 in
-    let at : InstanceAt (start k (term_for (variables_from 0 is.0) ts)) true (for_all is.0 is.1) (clause_at is.1 ts) =
-    instance_at script.functions k is.0 is.1 ts is.3 e in
-    let P : Formula → Type 0 = λ f. InstanceAt (start k (term_for (variables_from 0 is.0) ts)) true f (clause_at is.1 ts) in
-    let Q : List Binder → Type 0 = λ bs. InstanceAt (start k (term_for bs ts)) true a.formula (clause_at is.1 ts) in (
+    ap (λ f. universals_at f true) is.2 ∙ rule_universals script.functions (IsArgument script.functions is.0) is.0 is.1 is.3 in (
       a,
       there,
-      subst (λ bs. AllZip (IsTermFor script.functions) bs ts) (sym universals) (ground_terms script.functions 0 is.0 ts e ground),
-      subst Q (sym universals) (subst P (sym is.2) at),
+      subst (λ bs. AllZip (IsTermFor script) bs ts) (sym universals) (ground_terms script 0 is.0 ts some e ground),
+      whole_is a.formula (start k (term_for (universals_at a.formula true) ts)) true,
     )

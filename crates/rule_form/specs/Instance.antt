@@ -1,42 +1,20 @@
 -- Instances of assertions (Skolem form, with this project's numbers for Skolem symbols).
 use Rattle.std.specs.Prelude.{◌≡◌, ℕ, ◌==◌, Bool, true, false, not, List, [], ◌∷◌, ◌++◌, map, ◌⊎◌, Some, slice_get, if◌then◌else◌}
-use Rattle.std.specs.List.{AllZip, flat_map, list_any}
-use Rattle.mbqi_terms.specs.Lists.{sort_of_term}
-use Rattle.mbqi_terms.specs.Tree.{IsPart, Layer}
+use Rattle.std.specs.List.{AllZip, list_any}
+use Rattle.mbqi_terms.specs.Binders.{universals_at}
+use Rattle.mbqi_terms.specs.InForm.{IsGroundTerm}
+use Rattle.mbqi_terms.specs.Sort.{plain_sort}
 use Rattle.mbqi_terms.specs.declared.formula.Formula.{Formula, Row_of-Formula, end_of-Formula, more_of-Formula}
-use Rattle.mbqi_terms.specs.declared.formula.Formula.TheFolds.{fold-Formula}
-use Rattle.mbqi_terms.specs.declared.formula.Formula.TheOpen.{Formula-F}
 use Rattle.mbqi_terms.specs.declared.formula.Formula.TheVariants.{Atom, Equal, AtMost, SameArray, Not', All', Any', Iff', Choose', Forall', Exists'}
 use Rattle.mbqi_terms.specs.declared.formula.Formula.TheVariants as formula
 use Rattle.mbqi_terms.specs.declared.script.Assertion.{Assertion}
-use Rattle.mbqi_terms.specs.declared.script.Function.{Function}
 use Rattle.mbqi_terms.specs.declared.script.Script.{Script}
 use Rattle.mbqi_terms.specs.declared.sort.Binder.{Binder}
-use Rattle.mbqi_terms.specs.declared.store.lists.Lists.{Lists}
+use Rattle.mbqi_terms.specs.declared.sort.Plain.{Plain}
 use Rattle.mbqi_terms.specs.declared.term.Symbol.TheVariants as symbol
-use Rattle.mbqi_terms.specs.declared.term.Term.{Term, out-Term}
+use Rattle.mbqi_terms.specs.declared.term.Term.{Term}
 use Rattle.mbqi_terms.specs.declared.term.Term.TheVariants as term
-use Rattle.mbqi_terms.specs.declared.term.ArrayTerm.TheOpen.{Term-F}
-use Rattle.rule_form.specs.Substitution.{put_into, put_into_array, put_into_formula}
-
--- The universal variables of a formula at a polarity, in order of the text: those of a `forall` at positive and of an `exists` at
--- negative polarity. The others are existential.
-abbrev pub universal_layer : Formula-F (Bool → List Binder) → Bool → List Binder
-universal_layer (Formula-F.Truth t) b = []
-universal_layer (Formula-F.Atom t) b = []
-universal_layer (Formula-F.Equal s t) b = []
-universal_layer (Formula-F.AtMost s t) b = []
-universal_layer (Formula-F.SameArray s t) b = []
-universal_layer (Formula-F.Not f) b = f (not b)
-universal_layer (Formula-F.All parts) b = flat_map (λ (part : Bool → List Binder). part b) parts
-universal_layer (Formula-F.Any parts) b = flat_map (λ (part : Bool → List Binder). part b) parts
-universal_layer (Formula-F.Iff f g) b = []
-universal_layer (Formula-F.Choose c f g) b = f b ++ g b
-universal_layer (Formula-F.Forall binders f) b = (if b then binders else []) ++ f b
-universal_layer (Formula-F.Exists binders f) b = (if b then [] else binders) ++ f b
-
-unfoldable pub universals_at : Formula → Bool → List Binder
-universals_at f = fold-Formula (Bool → List Binder) universal_layer f
+use Rattle.mbqi_terms.specs.Substitution.{put_into, put_into_array, put_into_formula}
 
 -- The term for the variable of a place, where the variables have these terms in order.
 abbrev pub term_for : List Binder → List Term → ℕ → Term
@@ -106,26 +84,49 @@ unfoldable mutual
   OneInstance i b end_of-Formula g = ⊥
   OneInstance i b (more_of-Formula f fs) g = InstanceAt i b f g ⊎ OneInstance i b fs g
 
+-- The instance of a formula at a polarity that takes every part, wherever one part may be taken.
+unfoldable mutual
+  pub whole : Instantiation → Bool → Formula → Formula
+  whole i b (formula.Truth t) = signed b (formula.Truth t)
+  whole i b (Atom t) = signed b (Atom (put_into i.at t))
+  whole i b (Equal s t) = signed b (Equal (put_into i.at s) (put_into i.at t))
+  whole i b (AtMost s t) = signed b (AtMost (put_into i.at s) (put_into i.at t))
+  whole i b (SameArray s t) = signed b (SameArray (put_into_array i.at s) (put_into_array i.at t))
+  whole i b (Not' u (more_of-Formula f end_of-Formula)) = whole i (not b) f
+  whole i true (All' n fs) = formula.All (whole_each i true fs)
+  whole i false (All' n fs) = formula.Any (whole_each i false fs)
+  whole i true (Any' n fs) = formula.Any (whole_each i true fs)
+  whole i false (Any' n fs) = formula.All (whole_each i false fs)
+  whole i b (Iff' u (more_of-Formula f end_of-Formula) v (more_of-Formula h end_of-Formula)) =
+      signed b (formula.Iff (put_into_formula i.at f) (put_into_formula i.at h))
+  whole i b (Choose' u (more_of-Formula c end_of-Formula) v (more_of-Formula f end_of-Formula) w (more_of-Formula h end_of-Formula)) =
+      formula.Choose (put_into_formula i.at c) (whole i b f) (whole i b h)
+  whole i true (Forall' bs u (more_of-Formula f end_of-Formula)) = whole (below_universal bs i) true f
+  whole i false (Forall' bs u (more_of-Formula f end_of-Formula)) = whole (below_existential bs i) false f
+  whole i true (Exists' bs u (more_of-Formula f end_of-Formula)) = whole (below_existential bs i) true f
+  whole i false (Exists' bs u (more_of-Formula f end_of-Formula)) = whole (below_universal bs i) false f
+
+  pub whole_each : Instantiation → Bool → {n : _} → Row_of-Formula n → List Formula
+  whole_each i b end_of-Formula = []
+  whole_each i b (more_of-Formula f fs) = whole i b f ∷ whole_each i b fs
+
 -- Where an instance begins.
 abbrev pub start : ℕ → (ℕ → Term) → Instantiation
 start assertion given = record { assertion = assertion; given = given; outer = []; at = λ place. term.Var place }
 
--- The lists of a script without arrays and existential variables, by which its ground terms have their sorts.
-abbrev pub lists_of : List Function → Lists
-lists_of functions = record { functions = functions; skolems = []; arrays = record { terms = []; atoms = []; defaults = [] } }
-
--- A term without variables, of the sort of a variable.
-abbrev pub HasNoVariable : Layer → Type 0
-HasNoVariable (Term-F.Var place) = ⊥
-HasNoVariable layer = Unit {0}
-
-abbrev pub IsTermFor : List Function → Binder → Term → Type 0
-IsTermFor functions binder t =
-    ((part : Term) → IsPart part t → HasNoVariable (out-Term part)) × (sort_of_term (lists_of functions) t ≡ Some binder.sort)
+-- A term for a variable: ground, and of the variable's sort.
+pub record IsTermFor (script : Script) (binder : Binder) (t : Term) : Type 0 where
+  pub sort : Plain
+  pub same : binder.sort ≡ plain_sort sort
+  pub ground : IsGroundTerm script sort t
 
 -- The formula is an instance of the assertion of a number, with one ground term of its sort for each universal variable.
 abbrev pub IsInstance : Script → ℕ → List Term → Formula → Type 0
 IsInstance script assertion terms g =
     (a : Assertion) × (slice_get script.assertions assertion ≡ Some a)
-    × AllZip (IsTermFor script.functions) (universals_at a.formula true) terms
+    × AllZip (IsTermFor script) (universals_at a.formula true) terms
     × InstanceAt (start assertion (term_for (universals_at a.formula true) terms)) true a.formula g
+
+-- The whole instance of an assertion at terms for its universal variables.
+abbrev pub whole_at : ℕ → Formula → List Term → Formula
+whole_at assertion f terms = whole (start assertion (term_for (universals_at f true) terms)) true f

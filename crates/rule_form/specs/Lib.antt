@@ -1,3 +1,2 @@
-pub mod Substitution
 pub mod Instance
 pub mod Rules

@@ -11,7 +11,8 @@ use Rattle.mbqi_terms.specs.declared.script.Script.{Script}
 use Rattle.mbqi_terms.specs.declared.term.Term.{Term}
 use Rattle.mbqi_terms.specs.declared.term.Term.TheVariants as term
 use Rattle.ground_form.specs.Profile.{constants_of, seed}
-use Rattle.rule_form.specs.Substitution.{put_into_formula}
+use Rattle.mbqi_terms.specs.Substitution.{put_into_formula}
+use Rattle.rule_form.specs.Instance.{whole_at}
 use Rattle.rule_form.specs.declared.choice.Choice.{Choice}
 
 -- How many variables an assertion has, and its clause.
@@ -39,10 +40,10 @@ formula_of (Some assertion) = assertion.formula
 abbrev pub assertion_at : List Assertion → ℕ → Formula
 assertion_at assertions rule = formula_of (slice_get assertions rule)
 
--- The instance of a rule at terms.
+-- The whole instance of a rule at terms. That of a clause is the clause with the terms in the places of its variables.
 abbrev pub line_of : List Assertion → Choice → InstanceLine
 line_of assertions choice =
-    record { assertion = choice.rule; terms = choice.terms; formula = clause_at (clause_of (assertion_at assertions choice.rule)) choice.terms }
+    record { assertion = choice.rule; terms = choice.terms; formula = whole_at choice.rule (assertion_at assertions choice.rule) choice.terms }
 
 abbrev pub lines_of : List Assertion → List Choice → List InstanceLine
 lines_of assertions choices = map (line_of assertions) choices
@@ -61,14 +62,14 @@ pub record IsChoice (script : Script) (choice : Choice) : Type 0 where
 abbrev pub IsOpen : Choice → Type 0
 IsOpen choice = 1 ≤ length choice.terms
 
--- The instances of the rules without variables: each such assertion itself, from number k on.
+-- The whole instances of the rules without variables, from number k on.
 abbrev pub first_with : ℕ → ℕ → Formula → List InstanceLine → List InstanceLine
 first_with zero k f lines = record { assertion = k; terms = []; formula = f } ∷ lines
 first_with (suc n) k f lines = lines
 
 abbrev pub first_from : ℕ → List Assertion → List InstanceLine
 first_from k [] = []
-first_from k (assertion ∷ assertions) = first_with (variables_of assertion.formula) k assertion.formula (first_from (k + 1) assertions)
+first_from k (assertion ∷ assertions) = first_with (variables_of assertion.formula) k (whole_at k assertion.formula []) (first_from (k + 1) assertions)
 
 -- How many instances over the pool there are: for each rule the product, over its variables, of the terms of the pool.
 abbrev pub power : ℕ → ℕ → ℕ

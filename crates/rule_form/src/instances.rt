@@ -2,10 +2,10 @@
 
 ghost use Rattle.std.specs.Prelude.{◌≡◌, [], length, map, All, IfOk};
 ghost use Rattle.ground_form.specs.Atoms.{formulas_in};
-ghost use Rattle.ground_form.specs.Profile.{IsArgument, IsAtom, IsClause, IsElementary, IsGround, IsLiteral};
-ghost use Rattle.rule_form.specs.Instance.{IsInstance};
-ghost use Rattle.rule_form.specs.Rules.{IsChoice, clause_at, first_from, line_of, lines_of, term_at};
-ghost use Rattle.rule_form.specs.Substitution.{put_into, put_into_formula};
+ghost use Rattle.ground_form.specs.Profile.{IsArgument, IsAtom, IsClause, IsElementary, IsGround, IsLiteral, IsRule};
+ghost use Rattle.rule_form.specs.Instance.{IsInstance, whole_at};
+ghost use Rattle.rule_form.specs.Rules.{IsChoice, clause_at, first_from, line_of, lines_of, term_at, variables_of};
+ghost use Rattle.mbqi_terms.specs.Substitution.{put_into, put_into_formula};
 
 use crate::choice::Choice;
 use crate::parts::rule_parts;
@@ -17,7 +17,7 @@ use mbqi_terms::{
 use sqlite_items::Boxed;
 use std::alloc::{AllocError, Global};
 
-/// The instances of the rules without variables: each such assertion itself. The one error is want of memory.
+/// The instances of the rules without variables: each such assertion whole. The one error is want of memory.
 pub fn first_lines(alloc: Global, script: &Script) -> Result<InstanceLines, AllocError>
     requires { IsElementary script.now }
     ensures lines { IfOk result (λ lines. lines ≡ first_from 0 script.now.assertions) }
@@ -28,16 +28,25 @@ pub fn first_lines(alloc: Global, script: &Script) -> Result<InstanceLines, Allo
     for (rule, assertion) in script.assertions.as_slice().iter().enumerate() {
         let (variables, _) = rule_parts(&assertion.formula);
         if variables == 0 {
-            lines.push(itself(alloc, rule, &assertion.formula)?)?;
+            lines.push(itself(alloc, script, rule, &assertion.formula)?)?;
         }
     }
     Ok(lines)
 }
 
-// An assertion without variables as an instance.
-fn itself(alloc: Global, rule: usize, formula: &Formula) -> Result<InstanceLine, AllocError>
-    ensures { IfOk result (λ line. line ≡ record { assertion = rule; terms = []; formula = formula.now }) }
+// The whole instance of an assertion without variables: being a clause, it is the assertion itself.
+fn itself(
+    alloc: Global,
+    script: &Script,
+    rule: usize,
+    formula: &Formula,
+) -> Result<InstanceLine, AllocError>
+    requires elementary { IsElementary script.now }
+    requires rule { IsRule script.now.functions formula.now }
+    requires closed { variables_of formula.now ≡ 0 }
+    ensures { IfOk result (λ line. line ≡ record { assertion = rule; terms = []; formula = whole_at rule formula.now [] }) }
 {
+    let _functions = &script.functions;
     Ok(InstanceLine {
         assertion: rule,
         terms: Terms::new(alloc),

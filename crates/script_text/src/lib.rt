@@ -4,7 +4,8 @@
 
 #![tactic(auto)]
 
-ghost use Rattle.std.specs.Prelude.{◌≡◌, ◌++◌, OnOk};
+ghost use Rattle.std.specs.Prelude.{◌≡◌, ◌++◌, OnOk, OnErr};
+ghost use Rattle.std.specs.Io.{StartsWith};
 ghost use Rattle.script_text.specs.Text.{script_text};
 
 mod lines;
@@ -19,9 +20,10 @@ use std::alloc::AllocError;
 /// Appends the canonical text of a script: `(declare-sort s 0)` for each sort, `(declare-fun f (S ...) S)` for each
 /// function, `(assert t)` or `(assert (! t :named l))` for each assertion, and `(check-sat)` where the script asks
 /// (this project's own choice among the texts of SMT-LIB 2.6). It is linear in what it writes. The one error is want
-/// of memory, after which a front of the text may stand there.
+/// of memory, after which `into` begins with what it held.
 pub fn write_script(script: &Script, into: &mut Vec<u8>) -> Result<(), AllocError>
-    ensures { OnOk result (into.new.items ≡ into.old.items ++ script_text script.now) }
+    ensures ok { OnOk result (into.new.items ≡ into.old.items ++ script_text script.now) }
+    ensures err { OnErr result (StartsWith into.new.items into.old.items) }
 {
     write_sorts(script.sorts.as_slice(), into)?;
     write_functions(script, script.functions.as_slice(), into)?;

@@ -1,6 +1,7 @@
 //! The lines of a script's commands.
 
-ghost use Rattle.std.specs.Prelude.{◌≡◌, ◌++◌, OnOk};
+ghost use Rattle.std.specs.Prelude.{◌≡◌, ◌++◌, OnOk, OnErr};
+ghost use Rattle.std.specs.Io.{StartsWith};
 ghost use Rattle.std.specs.List.{flat_map};
 ghost use Rattle.script_text.specs.Text.{assertion_line, declared_text, function_line, labelled_text, question_line, rank_text, sort_line};
 ghost use Rattle.smtlib_printer.specs.Names.{marks_of};
@@ -13,8 +14,10 @@ use smtlib_printer::{question_marks, write_formula_with, write_name, write_sort}
 use std::alloc::AllocError;
 
 /// Appends the declarations of sorts.
+#[tactic(auto, using(smtlib_printer::proofs::Fronts::behind))]
 pub(crate) fn write_sorts(names: &[Text], into: &mut Vec<u8>) -> Result<(), AllocError>
-    ensures { OnOk result (into.new.items ≡ into.old.items ++ flat_map sort_line names.now) }
+    ensures ok { OnOk result (into.new.items ≡ into.old.items ++ flat_map sort_line names.now) }
+    ensures err { OnErr result (StartsWith into.new.items into.old.items) }
 {
     for name in names {
         write_sort_declaration(name.as_slice(), into)?;
@@ -24,7 +27,8 @@ pub(crate) fn write_sorts(names: &[Text], into: &mut Vec<u8>) -> Result<(), Allo
 
 #[tactic(auto, unfolding(crate::specs::Text::sort_line))]
 fn write_sort_declaration(name: &[u8], into: &mut Vec<u8>) -> Result<(), AllocError>
-    ensures { OnOk result (into.new.items ≡ into.old.items ++ sort_line name.now) }
+    ensures ok { OnOk result (into.new.items ≡ into.old.items ++ sort_line name.now) }
+    ensures err { OnErr result (StartsWith into.new.items into.old.items) }
 {
     into.extend_from_slice(b"(declare-sort ")?;
     write_name(name, into)?;
@@ -32,12 +36,14 @@ fn write_sort_declaration(name: &[u8], into: &mut Vec<u8>) -> Result<(), AllocEr
 }
 
 /// Appends the declarations of functions.
+#[tactic(auto, using(smtlib_printer::proofs::Fronts::behind))]
 pub(crate) fn write_functions(
     script: &Script,
     functions: &[Function],
     into: &mut Vec<u8>,
 ) -> Result<(), AllocError>
-    ensures { OnOk result (into.new.items ≡ into.old.items ++ flat_map (function_line script.now) functions.now) }
+    ensures ok { OnOk result (into.new.items ≡ into.old.items ++ flat_map (function_line script.now) functions.now) }
+    ensures err { OnErr result (StartsWith into.new.items into.old.items) }
 {
     for function in functions {
         write_function_declaration(script, function, into)?;
@@ -51,7 +57,8 @@ fn write_function_declaration(
     function: &Function,
     into: &mut Vec<u8>,
 ) -> Result<(), AllocError>
-    ensures { OnOk result (into.new.items ≡ into.old.items ++ function_line script.now function.now) }
+    ensures ok { OnOk result (into.new.items ≡ into.old.items ++ function_line script.now function.now) }
+    ensures err { OnErr result (StartsWith into.new.items into.old.items) }
 {
     into.extend_from_slice(b"(declare-fun ")?;
     write_declared(script, function, into)?;
@@ -65,16 +72,18 @@ fn write_declared(
     function: &Function,
     into: &mut Vec<u8>,
 ) -> Result<(), AllocError>
-    ensures { OnOk result (into.new.items ≡ into.old.items ++ declared_text script.now function.now) }
+    ensures ok { OnOk result (into.new.items ≡ into.old.items ++ declared_text script.now function.now) }
+    ensures err { OnErr result (StartsWith into.new.items into.old.items) }
 {
     write_name(function.name.as_slice(), into)?;
     write_rank(script, function, into)
 }
 
 /// Appends the sorts of a function's arguments and of its result, behind a blank.
-#[tactic(auto, unfolding(crate::specs::Text::rank_text))]
+#[tactic(auto, using(smtlib_printer::proofs::Fronts::behind), unfolding(crate::specs::Text::rank_text))]
 fn write_rank(script: &Script, function: &Function, into: &mut Vec<u8>) -> Result<(), AllocError>
-    ensures { OnOk result (into.new.items ≡ into.old.items ++ rank_text script.now function.now) }
+    ensures ok { OnOk result (into.new.items ≡ into.old.items ++ rank_text script.now function.now) }
+    ensures err { OnErr result (StartsWith into.new.items into.old.items) }
 {
     into.extend_from_slice(b" ")?;
     write_sort_list(script, function.args.as_slice(), into)?;
@@ -83,12 +92,14 @@ fn write_rank(script: &Script, function: &Function, into: &mut Vec<u8>) -> Resul
 }
 
 /// Appends the assertions. The question marks of variables are counted once.
+#[tactic(auto, using(smtlib_printer::proofs::Fronts::behind))]
 pub(crate) fn write_assertions(
     script: &Script,
     assertions: &[Assertion],
     into: &mut Vec<u8>,
 ) -> Result<(), AllocError>
-    ensures { OnOk result (into.new.items ≡ into.old.items ++ flat_map (assertion_line script.now (marks_of script.now)) assertions.now) }
+    ensures ok { OnOk result (into.new.items ≡ into.old.items ++ flat_map (assertion_line script.now (marks_of script.now)) assertions.now) }
+    ensures err { OnErr result (StartsWith into.new.items into.old.items) }
 {
     let marks = question_marks(script);
     for assertion in assertions {
@@ -104,7 +115,8 @@ fn write_assertion(
     assertion: &Assertion,
     into: &mut Vec<u8>,
 ) -> Result<(), AllocError>
-    ensures { OnOk result (into.new.items ≡ into.old.items ++ assertion_line script.now marks assertion.now) }
+    ensures ok { OnOk result (into.new.items ≡ into.old.items ++ assertion_line script.now marks assertion.now) }
+    ensures err { OnErr result (StartsWith into.new.items into.old.items) }
 {
     into.extend_from_slice(b"(assert ")?;
     write_labelled(script, marks, assertion, into)?;
@@ -119,7 +131,8 @@ fn write_labelled(
     assertion: &Assertion,
     into: &mut Vec<u8>,
 ) -> Result<(), AllocError>
-    ensures { OnOk result (into.new.items ≡ into.old.items ++ labelled_text assertion.now.label (formula_text_with script.now marks assertion.now.formula)) }
+    ensures ok { OnOk result (into.new.items ≡ into.old.items ++ labelled_text assertion.now.label (formula_text_with script.now marks assertion.now.formula)) }
+    ensures err { OnErr result (StartsWith into.new.items into.old.items) }
 {
     match &assertion.label {
         None => write_formula_with(script, marks, &assertion.formula, into),
@@ -136,7 +149,8 @@ fn write_labelled(
 /// Appends the question, where the script asks it.
 #[tactic(auto, unfolding(crate::specs::Text::question_line))]
 pub(crate) fn write_question(asks: bool, into: &mut Vec<u8>) -> Result<(), AllocError>
-    ensures { OnOk result (into.new.items ≡ into.old.items ++ question_line asks) }
+    ensures ok { OnOk result (into.new.items ≡ into.old.items ++ question_line asks) }
+    ensures err { OnErr result (StartsWith into.new.items into.old.items) }
 {
     if asks {
         into.extend_from_slice(b"(check-sat)\n")?;

@@ -2,8 +2,10 @@ pub mod ByteSearch
 pub mod Fronts
 pub mod Kept
 pub mod Legality
+pub mod ListTrees
 pub mod ReadBack
 pub mod Readings
+pub mod Rows
 pub mod Soundness
 pub mod Spelling
 pub mod Texts

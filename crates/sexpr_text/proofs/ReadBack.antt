@@ -1,5 +1,5 @@
 -- A tree's text is read again as the tree: its tokens, in any place, before bytes that don't belong to it.
-use Rattle.std.proofs.Common.{◌≡◌, ℕ, ◌+◌, ◌-◌, ◌<◌, Bool, true, false, cond, ◌&&◌, List, [], ◌∷◌, ◌++◌, map, length, codes, refl, sym, ap, ◌∙◌, subst, arith, append_assoc, append-nil, length-append, inl, inr, All, IsTrue}
+use Rattle.std.proofs.Common.{◌≡◌, ℕ, ◌+◌, ◌<◌, Bool, true, false, cond, ◌&&◌, List, [], ◌∷◌, ◌++◌, map, length, codes, refl, sym, ap, ◌∙◌, subst, arith, append_assoc, append-nil, length-append, inl, inr, All, IsTrue}
 use Rattle.std.specs.List.{list_all, flat_map, AllByRecursion}
 use Rattle.std.proofs.Math.Seq.{drop-append_seam}
 use Rattle.std.proofs.lemmas.List.Sums.{list_all-from_AllPass}
@@ -17,7 +17,6 @@ use Rattle.sexpr_text.specs.declared.tree.Sexpr.TheVariants as sexpr
 use Rattle.sexpr_text.specs.declared.tree.Sexpr.TheVariants.{rolls-List, rolls-Numeral, rolls-Decimal, rolls-Hex, rolls-Binary, rolls-Str, rolls-Symbol, rolls-Keyword}
 use Rattle.sexpr_text.specs.declared.tree.Sexpr.TheFolds.{fold-roll-Sexpr}
 use Rattle.sexpr_text.specs.declared.tree.Sexpr.TheOpen.{Sexpr-F}
-use Rattle.sexpr_text.specs.declared.token.Token.{Token}
 use Rattle.sexpr_text.specs.declared.token.Token.TheVariants.{Open, Close, Atom}
 use Rattle.sexpr_text.specs.declared.token.Front.TheVariants as front
 use Rattle.sexpr_text.proofs.Fronts.{IsDelimited, numeral_front, decimal_front, hex_front, binary_front, string_is_front, simple_front, bars_front, keyword_is_front, numeral_some, decimal_some, simple_some}

@@ -6,3 +6,4 @@ pub mod Forms
 pub mod Legal
 pub mod Reading
 pub mod Text
+pub mod Trees

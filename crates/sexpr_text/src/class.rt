@@ -18,7 +18,8 @@ pub enum Class {
     Other,
 }
 
-/// Whether a symbol, beyond its first byte, may have the byte.
+/// Whether a symbol, beyond its first byte, may have the byte: a letter, a digit or one of `~!@$%^&*_-+=<>.?/` (SMT-LIB
+/// 2.6, section 3.1).
 #[tactic(auto, unfolding(crate::specs::Bytes::is_symbol_byte))]
 pub fn is_symbol_byte(byte: u8) -> bool
     ensures { result ≡ is_symbol_byte byte }

@@ -1,3 +1,7 @@
+ghost use Rattle.std.specs.Prelude.{◌≡◌};
+ghost use Rattle.std.specs.Option.{option_copied};
+ghost use Rattle.sexpr_text.specs.Trees.{keyword_in, list_in, numeral_in, symbol_in};
+
 use mbqi_values::sequence::{Sequence, Text};
 use sqlite_items::Items;
 
@@ -16,6 +20,53 @@ pub enum Sexpr {
     Symbol(Text),
     Keyword(Text),
     List(Sexprs),
+}
+
+impl Sexpr {
+    /// The digits of a numeral; nothing of another tree.
+    pub fn as_numeral(&self) -> Option<&[u8]>
+        ensures { option_copied result ≡ numeral_in self.now }
+    {
+        if let Sexpr::Numeral(text) = self {
+            Some(text.as_slice())
+        } else {
+            None
+        }
+    }
+
+    /// The text of a symbol; nothing of another tree.
+    pub fn as_symbol(&self) -> Option<&[u8]>
+        ensures { option_copied result ≡ symbol_in self.now }
+    {
+        if let Sexpr::Symbol(text) = self {
+            Some(text.as_slice())
+        } else {
+            None
+        }
+    }
+
+    /// The text of a keyword; nothing of another tree.
+    pub fn as_keyword(&self) -> Option<&[u8]>
+        ensures { option_copied result ≡ keyword_in self.now }
+    {
+        if let Sexpr::Keyword(text) = self {
+            Some(text.as_slice())
+        } else {
+            None
+        }
+    }
+
+    /// The trees of a list, in their order; nothing of another tree.
+    #[tactic(auto, using(crate::proofs::ListTrees::list_in_list))]
+    pub fn as_list(&self) -> Option<&[Sexpr]>
+        ensures { option_copied result ≡ list_in self.now }
+    {
+        if let Sexpr::List(trees) = self {
+            Some(trees.as_slice())
+        } else {
+            None
+        }
+    }
 }
 
 /// The S-expressions of a list, which contracts see as a list.

@@ -90,9 +90,10 @@ fn append_symbol(text: &[u8], into: &mut Vec<u8>) -> Result<(), AllocError>
     }
 }
 
-/// Whether a symbol needs no bars.
+/// Whether a symbol needs no bars: it isn't empty, each of its bytes may stand in a symbol, and the first is no digit
+/// (SMT-LIB 2.6, section 3.1). Reserved words count as simple here.
 #[tactic(auto, unfolding(crate::specs::Text::is_simple))]
-fn is_simple(text: &[u8]) -> bool
+pub fn is_simple(text: &[u8]) -> bool
     ensures { result ≡ is_simple text.now }
 {
     !text.is_empty() && is_all_symbol_bytes(text) && !text[0].is_ascii_digit()

@@ -21,16 +21,18 @@ use Rattle.sexpr_text.specs.declared.tree.Form.{Form}
 use Rattle.sexpr_text.specs.declared.tree.Sexpr.{Sexpr}
 use Rattle.sexpr_text.specs.declared.tree.Sexpr.TheBlock.{hidden-the_row-Sexpr-0}
 use Rattle.sexpr_text.specs.declared.tree.Sexpr.TheVariants as tree
-use Rattle.smtlib_terms.specs.Declaring.{formula_read, function_declared, sort_declared}
-use Rattle.smtlib_terms.specs.Meaning.{shifted_formula, shifted_term, depth_of_formula, depth_of_term, depth_of_array, varies, variables_in}
+use Rattle.smtlib_terms.specs.Declaring.{definition_parts, function_declared, sort_declared, term_read}
+use Rattle.smtlib_terms.specs.Meaning.{shifted_formula, shifted_term}
 use Rattle.smtlib_terms.specs.Names.{sort_meant}
 use Rattle.smtlib_terms.specs.Reading.{side, trees_in}
 use Rattle.smtlib_terms.specs.Words.{word_of, is_reserved, is_reserved_word}
-use Rattle.term_reader.specs.Defining.{definition_parts}
 use Rattle.smtlib_decls.specs.Commands.{command_meant, command_of, constant_declared, definition_behind, function_command, signature_declared}
 use Rattle.smtlib_decls.specs.Labels.{label_of}
 use Rattle.smtlib_decls.specs.Means.{Refused}
 use Rattle.smtlib_decls.specs.Scripts.{is_exit, script_meant}
+use Rattle.mbqi_terms.specs.Depth.{depth_of_formula, depth_of_term, depth_of_array}
+use Rattle.mbqi_terms.specs.Varies.{varies}
+use Rattle.mbqi_terms.specs.Binders.{variables_in}
 use denote.Hole.Carrier.{hidden}
 
 abbrev form : ℕ → ℕ → Sexpr → Form
@@ -60,8 +62,34 @@ numeral_past_the_limit : script_meant
     ∷ form 21 56 (list (symbol (codes "assert") ∷ list (symbol (codes "<=") ∷ symbol (codes "x") ∷ numeral (codes "9223372036854775808") ∷ []) ∷ []))
     ∷ [])
     ≡ Err (record { at = 21; kind = kind.NumeralTooWide })
-unfolding command_meant command_of label_of is_exit function_command constant_declared signature_declared formula_read sort_declared function_declared side trees_in word_of sort_meant is_reserved is_reserved_word shifted_formula shifted_term depth_of_formula depth_of_term depth_of_array varies variables_in hidden-the_row-Sexpr-0 hidden-the_row-Term-1 hidden-the_row-Formula-0 hidden
+unfolding command_meant command_of label_of is_exit function_command constant_declared signature_declared term_read sort_declared function_declared side trees_in word_of sort_meant is_reserved is_reserved_word shifted_formula shifted_term depth_of_formula depth_of_term depth_of_array varies variables_in hidden-the_row-Sexpr-0 hidden-the_row-Term-1 hidden-the_row-Formula-0 hidden
 numeral_past_the_limit = search (rules, formulas.the_lemmas, terms.the_lemmas)
+
+-- (assert (! true :named a))(assert (! 3 :named a))
+label_before_the_sort : script_meant
+    (form 0 26 (list (symbol (codes "assert") ∷ list (symbol (codes "!") ∷ symbol (codes "true") ∷ keyword (codes "named") ∷ symbol (codes "a") ∷ []) ∷ []))
+    ∷ form 26 49 (list (symbol (codes "assert") ∷ list (symbol (codes "!") ∷ numeral (codes "3") ∷ keyword (codes "named") ∷ symbol (codes "a") ∷ []) ∷ []))
+    ∷ [])
+    ≡ Err (record { at = 26; kind = kind.Twice })
+unfolding command_meant command_of label_of is_exit function_command constant_declared signature_declared term_read sort_declared function_declared side trees_in word_of sort_meant is_reserved is_reserved_word shifted_formula shifted_term depth_of_formula depth_of_term depth_of_array varies variables_in hidden-the_row-Sexpr-0 hidden-the_row-Term-1 hidden-the_row-Formula-0 hidden
+label_before_the_sort = search (rules, formulas.the_lemmas, terms.the_lemmas)
+
+-- (check-sat)(assert 3)
+question_before_the_sort : script_meant
+    (form 0 11 (list (symbol (codes "check-sat") ∷ []))
+    ∷ form 11 21 (list (symbol (codes "assert") ∷ numeral (codes "3") ∷ []))
+    ∷ [])
+    ≡ Err (record { at = 11; kind = kind.Unsupported })
+unfolding command_meant command_of label_of is_exit function_command constant_declared signature_declared term_read sort_declared function_declared side trees_in word_of sort_meant is_reserved is_reserved_word shifted_formula shifted_term depth_of_formula depth_of_term depth_of_array varies variables_in hidden-the_row-Sexpr-0 hidden-the_row-Term-1 hidden-the_row-Formula-0 hidden
+question_before_the_sort = search (rules, formulas.the_lemmas, terms.the_lemmas)
+
+-- (assert (! 3 :named a))
+integer_asserted : script_meant
+    (form 0 23 (list (symbol (codes "assert") ∷ list (symbol (codes "!") ∷ numeral (codes "3") ∷ keyword (codes "named") ∷ symbol (codes "a") ∷ []) ∷ []))
+    ∷ [])
+    ≡ Err (record { at = 0; kind = kind.WrongSort })
+unfolding command_meant command_of label_of is_exit function_command constant_declared signature_declared term_read sort_declared function_declared side trees_in word_of sort_meant is_reserved is_reserved_word shifted_formula shifted_term depth_of_formula depth_of_term depth_of_array varies variables_in hidden-the_row-Sexpr-0 hidden-the_row-Term-1 hidden-the_row-Formula-0 hidden
+integer_asserted = search (rules, formulas.the_lemmas, terms.the_lemmas)
 
 -- (declare-const x Int)(assert (<= x 9223372036854775807))
 numeral_at_the_limit : script_meant
@@ -69,7 +97,7 @@ numeral_at_the_limit : script_meant
     ∷ form 21 56 (list (symbol (codes "assert") ∷ list (symbol (codes "<=") ∷ symbol (codes "x") ∷ numeral (codes "9223372036854775807") ∷ []) ∷ []))
     ∷ [])
     ≡ Ok (record { sorts = []; functions = function (codes "x") [] sort.Int ∷ []; assertions = assertion None (AtMost (Apply (Declared 0) []) (Num (pos 9223372036854775807))) ∷ []; asks = false })
-unfolding command_meant command_of label_of is_exit function_command constant_declared signature_declared formula_read sort_declared function_declared side trees_in word_of sort_meant is_reserved is_reserved_word shifted_formula shifted_term depth_of_formula depth_of_term depth_of_array varies variables_in hidden-the_row-Sexpr-0 hidden-the_row-Term-1 hidden-the_row-Formula-0 hidden
+unfolding command_meant command_of label_of is_exit function_command constant_declared signature_declared term_read sort_declared function_declared side trees_in word_of sort_meant is_reserved is_reserved_word shifted_formula shifted_term depth_of_formula depth_of_term depth_of_array varies variables_in hidden-the_row-Sexpr-0 hidden-the_row-Term-1 hidden-the_row-Formula-0 hidden
 numeral_at_the_limit = search (rules, formulas.the_lemmas, terms.the_lemmas)
 
 -- (declare-sort S 0)(declare-const a (Array S Int))(assert (= (default a) 0))
@@ -79,7 +107,7 @@ default_over_a_sort : script_meant
     ∷ form 49 75 (list (symbol (codes "assert") ∷ list (symbol (codes "=") ∷ list (symbol (codes "default") ∷ symbol (codes "a") ∷ []) ∷ numeral (codes "0") ∷ []) ∷ []))
     ∷ [])
     ≡ Err (record { at = 49; kind = kind.Unsupported })
-unfolding command_meant command_of label_of is_exit function_command constant_declared signature_declared formula_read sort_declared function_declared side trees_in word_of sort_meant is_reserved is_reserved_word shifted_formula shifted_term depth_of_formula depth_of_term depth_of_array varies variables_in hidden-the_row-Sexpr-0 hidden-the_row-Term-1 hidden-the_row-Formula-0 hidden
+unfolding command_meant command_of label_of is_exit function_command constant_declared signature_declared term_read sort_declared function_declared side trees_in word_of sort_meant is_reserved is_reserved_word shifted_formula shifted_term depth_of_formula depth_of_term depth_of_array varies variables_in hidden-the_row-Sexpr-0 hidden-the_row-Term-1 hidden-the_row-Formula-0 hidden
 default_over_a_sort = search (rules, formulas.the_lemmas, terms.the_lemmas)
 
 -- (declare-const b (Array Int Int))(assert (forall ((i Int)) (= b (store b i 0))))
@@ -88,7 +116,7 @@ variable_in_an_array : script_meant
     ∷ form 33 80 (list (symbol (codes "assert") ∷ list (symbol (codes "forall") ∷ list (list (symbol (codes "i") ∷ symbol (codes "Int") ∷ []) ∷ []) ∷ list (symbol (codes "=") ∷ symbol (codes "b") ∷ list (symbol (codes "store") ∷ symbol (codes "b") ∷ symbol (codes "i") ∷ numeral (codes "0") ∷ []) ∷ []) ∷ []) ∷ []))
     ∷ [])
     ≡ Err (record { at = 33; kind = kind.BoundArray })
-unfolding command_meant command_of label_of is_exit function_command constant_declared signature_declared formula_read sort_declared function_declared side trees_in word_of sort_meant is_reserved is_reserved_word shifted_formula shifted_term depth_of_formula depth_of_term depth_of_array varies variables_in hidden-the_row-Sexpr-0 hidden-the_row-Term-1 hidden-the_row-Formula-0 hidden
+unfolding command_meant command_of label_of is_exit function_command constant_declared signature_declared term_read sort_declared function_declared side trees_in word_of sort_meant is_reserved is_reserved_word shifted_formula shifted_term depth_of_formula depth_of_term depth_of_array varies variables_in hidden-the_row-Sexpr-0 hidden-the_row-Term-1 hidden-the_row-Formula-0 hidden
 variable_in_an_array = search (rules, formulas.the_lemmas, terms.the_lemmas)
 
 -- (declare-fun f (Int) Int)(define-fun g ((x Int)) Bool (< (f x) 3))(assert (forall ((y Int)) (let ((z (- y 1))) (g z))))(check-sat)
@@ -99,14 +127,14 @@ macro_under_a_binder : script_meant
     ∷ form 119 130 (list (symbol (codes "check-sat") ∷ []))
     ∷ [])
     ≡ Ok (record { sorts = []; functions = function (codes "f") (sort.Int ∷ []) sort.Int ∷ []; assertions = assertion None (Forall (record { place = 0; sort = sort.Int } ∷ []) (Not (AtMost (Num (pos 3)) (Apply (Declared 0) (Plus (Var 0) (negsuc 0) ∷ []))))) ∷ []; asks = true })
-unfolding command_meant command_of label_of is_exit function_command constant_declared signature_declared formula_read sort_declared function_declared side trees_in word_of sort_meant is_reserved is_reserved_word shifted_formula shifted_term depth_of_formula depth_of_term depth_of_array varies variables_in hidden-the_row-Sexpr-0 hidden-the_row-Term-1 hidden-the_row-Formula-0 hidden
+unfolding command_meant command_of label_of is_exit function_command constant_declared signature_declared term_read sort_declared function_declared side trees_in word_of sort_meant is_reserved is_reserved_word shifted_formula shifted_term depth_of_formula depth_of_term depth_of_array varies variables_in hidden-the_row-Sexpr-0 hidden-the_row-Term-1 hidden-the_row-Formula-0 hidden
 macro_under_a_binder = search (rules, formulas.the_lemmas, terms.the_lemmas)
 
 --
 empty_text : script_meant
     ([])
     ≡ Ok (record { sorts = []; functions = []; assertions = []; asks = false })
-unfolding command_meant command_of label_of is_exit function_command constant_declared signature_declared formula_read sort_declared function_declared side trees_in word_of sort_meant is_reserved is_reserved_word shifted_formula shifted_term depth_of_formula depth_of_term depth_of_array varies variables_in hidden-the_row-Sexpr-0 hidden-the_row-Term-1 hidden-the_row-Formula-0 hidden
+unfolding command_meant command_of label_of is_exit function_command constant_declared signature_declared term_read sort_declared function_declared side trees_in word_of sort_meant is_reserved is_reserved_word shifted_formula shifted_term depth_of_formula depth_of_term depth_of_array varies variables_in hidden-the_row-Sexpr-0 hidden-the_row-Term-1 hidden-the_row-Formula-0 hidden
 empty_text = search (rules, formulas.the_lemmas, terms.the_lemmas)
 
 -- (set-logic ALL)(set-info :status sat)(set-option)(get-model x)(get-info)(get-unsat-core)(echo 3)
@@ -120,7 +148,7 @@ passed_over : script_meant
     ∷ form 88 96 (list (symbol (codes "echo") ∷ numeral (codes "3") ∷ []))
     ∷ [])
     ≡ Ok (record { sorts = []; functions = []; assertions = []; asks = false })
-unfolding command_meant command_of label_of is_exit function_command constant_declared signature_declared formula_read sort_declared function_declared side trees_in word_of sort_meant is_reserved is_reserved_word shifted_formula shifted_term depth_of_formula depth_of_term depth_of_array varies variables_in hidden-the_row-Sexpr-0 hidden-the_row-Term-1 hidden-the_row-Formula-0 hidden
+unfolding command_meant command_of label_of is_exit function_command constant_declared signature_declared term_read sort_declared function_declared side trees_in word_of sort_meant is_reserved is_reserved_word shifted_formula shifted_term depth_of_formula depth_of_term depth_of_array varies variables_in hidden-the_row-Sexpr-0 hidden-the_row-Term-1 hidden-the_row-Formula-0 hidden
 passed_over = search (rules, formulas.the_lemmas, terms.the_lemmas)
 
 -- (exit)(declare-sort S 1) p ()
@@ -131,7 +159,7 @@ nothing_counts_behind_exit : script_meant
     ∷ form 27 29 (list ([]))
     ∷ [])
     ≡ Ok (record { sorts = []; functions = []; assertions = []; asks = false })
-unfolding command_meant command_of label_of is_exit function_command constant_declared signature_declared formula_read sort_declared function_declared side trees_in word_of sort_meant is_reserved is_reserved_word shifted_formula shifted_term depth_of_formula depth_of_term depth_of_array varies variables_in hidden-the_row-Sexpr-0 hidden-the_row-Term-1 hidden-the_row-Formula-0 hidden
+unfolding command_meant command_of label_of is_exit function_command constant_declared signature_declared term_read sort_declared function_declared side trees_in word_of sort_meant is_reserved is_reserved_word shifted_formula shifted_term depth_of_formula depth_of_term depth_of_array varies variables_in hidden-the_row-Sexpr-0 hidden-the_row-Term-1 hidden-the_row-Formula-0 hidden
 nothing_counts_behind_exit = search (rules, formulas.the_lemmas, terms.the_lemmas)
 
 -- (|assert| |true|)
@@ -139,7 +167,7 @@ quoted_words : script_meant
     (form 0 17 (list (symbol (codes "assert") ∷ symbol (codes "true") ∷ []))
     ∷ [])
     ≡ Ok (record { sorts = []; functions = []; assertions = assertion None (Truth true) ∷ []; asks = false })
-unfolding command_meant command_of label_of is_exit function_command constant_declared signature_declared formula_read sort_declared function_declared side trees_in word_of sort_meant is_reserved is_reserved_word shifted_formula shifted_term depth_of_formula depth_of_term depth_of_array varies variables_in hidden-the_row-Sexpr-0 hidden-the_row-Term-1 hidden-the_row-Formula-0 hidden
+unfolding command_meant command_of label_of is_exit function_command constant_declared signature_declared term_read sort_declared function_declared side trees_in word_of sort_meant is_reserved is_reserved_word shifted_formula shifted_term depth_of_formula depth_of_term depth_of_array varies variables_in hidden-the_row-Sexpr-0 hidden-the_row-Term-1 hidden-the_row-Formula-0 hidden
 quoted_words = search (rules, formulas.the_lemmas, terms.the_lemmas)
 
 -- (assert (! true :named let))(assert (! (! false :named b) :pattern (q) :named @c))(assert (and (! true :named d)))
@@ -149,7 +177,7 @@ labels_are_kept : script_meant
     ∷ form 82 114 (list (symbol (codes "assert") ∷ list (symbol (codes "and") ∷ list (symbol (codes "!") ∷ symbol (codes "true") ∷ keyword (codes "named") ∷ symbol (codes "d") ∷ []) ∷ []) ∷ []))
     ∷ [])
     ≡ Ok (record { sorts = []; functions = []; assertions = assertion (Some (codes "let")) (Truth true) ∷ assertion (Some (codes "@c")) (Truth false) ∷ assertion None (Truth true) ∷ []; asks = false })
-unfolding command_meant command_of label_of is_exit function_command constant_declared signature_declared formula_read sort_declared function_declared side trees_in word_of sort_meant is_reserved is_reserved_word shifted_formula shifted_term depth_of_formula depth_of_term depth_of_array varies variables_in hidden-the_row-Sexpr-0 hidden-the_row-Term-1 hidden-the_row-Formula-0 hidden
+unfolding command_meant command_of label_of is_exit function_command constant_declared signature_declared term_read sort_declared function_declared side trees_in word_of sort_meant is_reserved is_reserved_word shifted_formula shifted_term depth_of_formula depth_of_term depth_of_array varies variables_in hidden-the_row-Sexpr-0 hidden-the_row-Term-1 hidden-the_row-Formula-0 hidden
 labels_are_kept = search (rules, formulas.the_lemmas, terms.the_lemmas)
 
 -- (assert (! true :named a))(assert (! false :named a))
@@ -158,7 +186,7 @@ label_twice : script_meant
     ∷ form 26 53 (list (symbol (codes "assert") ∷ list (symbol (codes "!") ∷ symbol (codes "false") ∷ keyword (codes "named") ∷ symbol (codes "a") ∷ []) ∷ []))
     ∷ [])
     ≡ Err (record { at = 26; kind = kind.Twice })
-unfolding command_meant command_of label_of is_exit function_command constant_declared signature_declared formula_read sort_declared function_declared side trees_in word_of sort_meant is_reserved is_reserved_word shifted_formula shifted_term depth_of_formula depth_of_term depth_of_array varies variables_in hidden-the_row-Sexpr-0 hidden-the_row-Term-1 hidden-the_row-Formula-0 hidden
+unfolding command_meant command_of label_of is_exit function_command constant_declared signature_declared term_read sort_declared function_declared side trees_in word_of sort_meant is_reserved is_reserved_word shifted_formula shifted_term depth_of_formula depth_of_term depth_of_array varies variables_in hidden-the_row-Sexpr-0 hidden-the_row-Term-1 hidden-the_row-Formula-0 hidden
 label_twice = search (rules, formulas.the_lemmas, terms.the_lemmas)
 
 -- (assert (! q :named a :named b))
@@ -166,7 +194,7 @@ two_labels : script_meant
     (form 0 32 (list (symbol (codes "assert") ∷ list (symbol (codes "!") ∷ symbol (codes "q") ∷ keyword (codes "named") ∷ symbol (codes "a") ∷ keyword (codes "named") ∷ symbol (codes "b") ∷ []) ∷ []))
     ∷ [])
     ≡ Err (record { at = 0; kind = kind.BadForm })
-unfolding command_meant command_of label_of is_exit function_command constant_declared signature_declared formula_read sort_declared function_declared side trees_in word_of sort_meant is_reserved is_reserved_word shifted_formula shifted_term depth_of_formula depth_of_term depth_of_array varies variables_in hidden-the_row-Sexpr-0 hidden-the_row-Term-1 hidden-the_row-Formula-0 hidden
+unfolding command_meant command_of label_of is_exit function_command constant_declared signature_declared term_read sort_declared function_declared side trees_in word_of sort_meant is_reserved is_reserved_word shifted_formula shifted_term depth_of_formula depth_of_term depth_of_array varies variables_in hidden-the_row-Sexpr-0 hidden-the_row-Term-1 hidden-the_row-Formula-0 hidden
 two_labels = search (rules, formulas.the_lemmas, terms.the_lemmas)
 
 -- (check-sat)(assert (! q :named 3))
@@ -175,7 +203,7 @@ label_without_a_symbol : script_meant
     ∷ form 11 34 (list (symbol (codes "assert") ∷ list (symbol (codes "!") ∷ symbol (codes "q") ∷ keyword (codes "named") ∷ numeral (codes "3") ∷ []) ∷ []))
     ∷ [])
     ≡ Err (record { at = 11; kind = kind.BadForm })
-unfolding command_meant command_of label_of is_exit function_command constant_declared signature_declared formula_read sort_declared function_declared side trees_in word_of sort_meant is_reserved is_reserved_word shifted_formula shifted_term depth_of_formula depth_of_term depth_of_array varies variables_in hidden-the_row-Sexpr-0 hidden-the_row-Term-1 hidden-the_row-Formula-0 hidden
+unfolding command_meant command_of label_of is_exit function_command constant_declared signature_declared term_read sort_declared function_declared side trees_in word_of sort_meant is_reserved is_reserved_word shifted_formula shifted_term depth_of_formula depth_of_term depth_of_array varies variables_in hidden-the_row-Sexpr-0 hidden-the_row-Term-1 hidden-the_row-Formula-0 hidden
 label_without_a_symbol = search (rules, formulas.the_lemmas, terms.the_lemmas)
 
 -- (assert (!))
@@ -183,7 +211,7 @@ nothing_is_annotated : script_meant
     (form 0 12 (list (symbol (codes "assert") ∷ list (symbol (codes "!") ∷ []) ∷ []))
     ∷ [])
     ≡ Err (record { at = 0; kind = kind.WrongCount })
-unfolding command_meant command_of label_of is_exit function_command constant_declared signature_declared formula_read sort_declared function_declared side trees_in word_of sort_meant is_reserved is_reserved_word shifted_formula shifted_term depth_of_formula depth_of_term depth_of_array varies variables_in hidden-the_row-Sexpr-0 hidden-the_row-Term-1 hidden-the_row-Formula-0 hidden
+unfolding command_meant command_of label_of is_exit function_command constant_declared signature_declared term_read sort_declared function_declared side trees_in word_of sort_meant is_reserved is_reserved_word shifted_formula shifted_term depth_of_formula depth_of_term depth_of_array varies variables_in hidden-the_row-Sexpr-0 hidden-the_row-Term-1 hidden-the_row-Formula-0 hidden
 nothing_is_annotated = search (rules, formulas.the_lemmas, terms.the_lemmas)
 
 -- (assert true true)
@@ -191,7 +219,7 @@ two_terms : script_meant
     (form 0 18 (list (symbol (codes "assert") ∷ symbol (codes "true") ∷ symbol (codes "true") ∷ []))
     ∷ [])
     ≡ Err (record { at = 0; kind = kind.BadForm })
-unfolding command_meant command_of label_of is_exit function_command constant_declared signature_declared formula_read sort_declared function_declared side trees_in word_of sort_meant is_reserved is_reserved_word shifted_formula shifted_term depth_of_formula depth_of_term depth_of_array varies variables_in hidden-the_row-Sexpr-0 hidden-the_row-Term-1 hidden-the_row-Formula-0 hidden
+unfolding command_meant command_of label_of is_exit function_command constant_declared signature_declared term_read sort_declared function_declared side trees_in word_of sort_meant is_reserved is_reserved_word shifted_formula shifted_term depth_of_formula depth_of_term depth_of_array varies variables_in hidden-the_row-Sexpr-0 hidden-the_row-Term-1 hidden-the_row-Formula-0 hidden
 two_terms = search (rules, formulas.the_lemmas, terms.the_lemmas)
 
 -- (assert 3)
@@ -199,7 +227,7 @@ term_of_another_sort : script_meant
     (form 0 10 (list (symbol (codes "assert") ∷ numeral (codes "3") ∷ []))
     ∷ [])
     ≡ Err (record { at = 0; kind = kind.WrongSort })
-unfolding command_meant command_of label_of is_exit function_command constant_declared signature_declared formula_read sort_declared function_declared side trees_in word_of sort_meant is_reserved is_reserved_word shifted_formula shifted_term depth_of_formula depth_of_term depth_of_array varies variables_in hidden-the_row-Sexpr-0 hidden-the_row-Term-1 hidden-the_row-Formula-0 hidden
+unfolding command_meant command_of label_of is_exit function_command constant_declared signature_declared term_read sort_declared function_declared side trees_in word_of sort_meant is_reserved is_reserved_word shifted_formula shifted_term depth_of_formula depth_of_term depth_of_array varies variables_in hidden-the_row-Sexpr-0 hidden-the_row-Term-1 hidden-the_row-Formula-0 hidden
 term_of_another_sort = search (rules, formulas.the_lemmas, terms.the_lemmas)
 
 -- (declare-sort S 0)(declare-sort S 0)
@@ -208,7 +236,7 @@ sort_twice : script_meant
     ∷ form 18 36 (list (symbol (codes "declare-sort") ∷ symbol (codes "S") ∷ numeral (codes "0") ∷ []))
     ∷ [])
     ≡ Err (record { at = 18; kind = kind.Twice })
-unfolding command_meant command_of label_of is_exit function_command constant_declared signature_declared formula_read sort_declared function_declared side trees_in word_of sort_meant is_reserved is_reserved_word shifted_formula shifted_term depth_of_formula depth_of_term depth_of_array varies variables_in hidden-the_row-Sexpr-0 hidden-the_row-Term-1 hidden-the_row-Formula-0 hidden
+unfolding command_meant command_of label_of is_exit function_command constant_declared signature_declared term_read sort_declared function_declared side trees_in word_of sort_meant is_reserved is_reserved_word shifted_formula shifted_term depth_of_formula depth_of_term depth_of_array varies variables_in hidden-the_row-Sexpr-0 hidden-the_row-Term-1 hidden-the_row-Formula-0 hidden
 sort_twice = search (rules, formulas.the_lemmas, terms.the_lemmas)
 
 -- (declare-sort let 1)
@@ -216,7 +244,7 @@ sort_with_parameters : script_meant
     (form 0 20 (list (symbol (codes "declare-sort") ∷ symbol (codes "let") ∷ numeral (codes "1") ∷ []))
     ∷ [])
     ≡ Err (record { at = 0; kind = kind.Unsupported })
-unfolding command_meant command_of label_of is_exit function_command constant_declared signature_declared formula_read sort_declared function_declared side trees_in word_of sort_meant is_reserved is_reserved_word shifted_formula shifted_term depth_of_formula depth_of_term depth_of_array varies variables_in hidden-the_row-Sexpr-0 hidden-the_row-Term-1 hidden-the_row-Formula-0 hidden
+unfolding command_meant command_of label_of is_exit function_command constant_declared signature_declared term_read sort_declared function_declared side trees_in word_of sort_meant is_reserved is_reserved_word shifted_formula shifted_term depth_of_formula depth_of_term depth_of_array varies variables_in hidden-the_row-Sexpr-0 hidden-the_row-Term-1 hidden-the_row-Formula-0 hidden
 sort_with_parameters = search (rules, formulas.the_lemmas, terms.the_lemmas)
 
 -- (declare-sort let x)
@@ -224,7 +252,7 @@ sort_without_a_numeral : script_meant
     (form 0 20 (list (symbol (codes "declare-sort") ∷ symbol (codes "let") ∷ symbol (codes "x") ∷ []))
     ∷ [])
     ≡ Err (record { at = 0; kind = kind.BadForm })
-unfolding command_meant command_of label_of is_exit function_command constant_declared signature_declared formula_read sort_declared function_declared side trees_in word_of sort_meant is_reserved is_reserved_word shifted_formula shifted_term depth_of_formula depth_of_term depth_of_array varies variables_in hidden-the_row-Sexpr-0 hidden-the_row-Term-1 hidden-the_row-Formula-0 hidden
+unfolding command_meant command_of label_of is_exit function_command constant_declared signature_declared term_read sort_declared function_declared side trees_in word_of sort_meant is_reserved is_reserved_word shifted_formula shifted_term depth_of_formula depth_of_term depth_of_array varies variables_in hidden-the_row-Sexpr-0 hidden-the_row-Term-1 hidden-the_row-Formula-0 hidden
 sort_without_a_numeral = search (rules, formulas.the_lemmas, terms.the_lemmas)
 
 -- (declare-sort let 0)
@@ -232,7 +260,7 @@ reserved_sort : script_meant
     (form 0 20 (list (symbol (codes "declare-sort") ∷ symbol (codes "let") ∷ numeral (codes "0") ∷ []))
     ∷ [])
     ≡ Err (record { at = 0; kind = kind.ReservedName })
-unfolding command_meant command_of label_of is_exit function_command constant_declared signature_declared formula_read sort_declared function_declared side trees_in word_of sort_meant is_reserved is_reserved_word shifted_formula shifted_term depth_of_formula depth_of_term depth_of_array varies variables_in hidden-the_row-Sexpr-0 hidden-the_row-Term-1 hidden-the_row-Formula-0 hidden
+unfolding command_meant command_of label_of is_exit function_command constant_declared signature_declared term_read sort_declared function_declared side trees_in word_of sort_meant is_reserved is_reserved_word shifted_formula shifted_term depth_of_formula depth_of_term depth_of_array varies variables_in hidden-the_row-Sexpr-0 hidden-the_row-Term-1 hidden-the_row-Formula-0 hidden
 reserved_sort = search (rules, formulas.the_lemmas, terms.the_lemmas)
 
 -- (check-sat)(declare-sort let 0)
@@ -241,7 +269,7 @@ sort_behind_the_question : script_meant
     ∷ form 11 31 (list (symbol (codes "declare-sort") ∷ symbol (codes "let") ∷ numeral (codes "0") ∷ []))
     ∷ [])
     ≡ Err (record { at = 11; kind = kind.Unsupported })
-unfolding command_meant command_of label_of is_exit function_command constant_declared signature_declared formula_read sort_declared function_declared side trees_in word_of sort_meant is_reserved is_reserved_word shifted_formula shifted_term depth_of_formula depth_of_term depth_of_array varies variables_in hidden-the_row-Sexpr-0 hidden-the_row-Term-1 hidden-the_row-Formula-0 hidden
+unfolding command_meant command_of label_of is_exit function_command constant_declared signature_declared term_read sort_declared function_declared side trees_in word_of sort_meant is_reserved is_reserved_word shifted_formula shifted_term depth_of_formula depth_of_term depth_of_array varies variables_in hidden-the_row-Sexpr-0 hidden-the_row-Term-1 hidden-the_row-Formula-0 hidden
 sort_behind_the_question = search (rules, formulas.the_lemmas, terms.the_lemmas)
 
 -- (check-sat)(declare-const x Real)
@@ -250,7 +278,7 @@ constant_of_an_unknown_sort : script_meant
     ∷ form 11 33 (list (symbol (codes "declare-const") ∷ symbol (codes "x") ∷ symbol (codes "Real") ∷ []))
     ∷ [])
     ≡ Err (record { at = 11; kind = kind.UnknownName })
-unfolding command_meant command_of label_of is_exit function_command constant_declared signature_declared formula_read sort_declared function_declared side trees_in word_of sort_meant is_reserved is_reserved_word shifted_formula shifted_term depth_of_formula depth_of_term depth_of_array varies variables_in hidden-the_row-Sexpr-0 hidden-the_row-Term-1 hidden-the_row-Formula-0 hidden
+unfolding command_meant command_of label_of is_exit function_command constant_declared signature_declared term_read sort_declared function_declared side trees_in word_of sort_meant is_reserved is_reserved_word shifted_formula shifted_term depth_of_formula depth_of_term depth_of_array varies variables_in hidden-the_row-Sexpr-0 hidden-the_row-Term-1 hidden-the_row-Formula-0 hidden
 constant_of_an_unknown_sort = search (rules, formulas.the_lemmas, terms.the_lemmas)
 
 -- (check-sat)(declare-const let Int)
@@ -259,7 +287,7 @@ constant_behind_the_question : script_meant
     ∷ form 11 34 (list (symbol (codes "declare-const") ∷ symbol (codes "let") ∷ symbol (codes "Int") ∷ []))
     ∷ [])
     ≡ Err (record { at = 11; kind = kind.Unsupported })
-unfolding command_meant command_of label_of is_exit function_command constant_declared signature_declared formula_read sort_declared function_declared side trees_in word_of sort_meant is_reserved is_reserved_word shifted_formula shifted_term depth_of_formula depth_of_term depth_of_array varies variables_in hidden-the_row-Sexpr-0 hidden-the_row-Term-1 hidden-the_row-Formula-0 hidden
+unfolding command_meant command_of label_of is_exit function_command constant_declared signature_declared term_read sort_declared function_declared side trees_in word_of sort_meant is_reserved is_reserved_word shifted_formula shifted_term depth_of_formula depth_of_term depth_of_array varies variables_in hidden-the_row-Sexpr-0 hidden-the_row-Term-1 hidden-the_row-Formula-0 hidden
 constant_behind_the_question = search (rules, formulas.the_lemmas, terms.the_lemmas)
 
 -- (declare-fun f (Bool) Int)
@@ -267,7 +295,7 @@ function_of_a_truth : script_meant
     (form 0 26 (list (symbol (codes "declare-fun") ∷ symbol (codes "f") ∷ list (symbol (codes "Bool") ∷ []) ∷ symbol (codes "Int") ∷ []))
     ∷ [])
     ≡ Err (record { at = 0; kind = kind.Unsupported })
-unfolding command_meant command_of label_of is_exit function_command constant_declared signature_declared formula_read sort_declared function_declared side trees_in word_of sort_meant is_reserved is_reserved_word shifted_formula shifted_term depth_of_formula depth_of_term depth_of_array varies variables_in hidden-the_row-Sexpr-0 hidden-the_row-Term-1 hidden-the_row-Formula-0 hidden
+unfolding command_meant command_of label_of is_exit function_command constant_declared signature_declared term_read sort_declared function_declared side trees_in word_of sort_meant is_reserved is_reserved_word shifted_formula shifted_term depth_of_formula depth_of_term depth_of_array varies variables_in hidden-the_row-Sexpr-0 hidden-the_row-Term-1 hidden-the_row-Formula-0 hidden
 function_of_a_truth = search (rules, formulas.the_lemmas, terms.the_lemmas)
 
 -- (declare-fun f (Int A (B)) Int)
@@ -275,7 +303,7 @@ first_faulty_sort : script_meant
     (form 0 31 (list (symbol (codes "declare-fun") ∷ symbol (codes "f") ∷ list (symbol (codes "Int") ∷ symbol (codes "A") ∷ list (symbol (codes "B") ∷ []) ∷ []) ∷ symbol (codes "Int") ∷ []))
     ∷ [])
     ≡ Err (record { at = 0; kind = kind.UnknownName })
-unfolding command_meant command_of label_of is_exit function_command constant_declared signature_declared formula_read sort_declared function_declared side trees_in word_of sort_meant is_reserved is_reserved_word shifted_formula shifted_term depth_of_formula depth_of_term depth_of_array varies variables_in hidden-the_row-Sexpr-0 hidden-the_row-Term-1 hidden-the_row-Formula-0 hidden
+unfolding command_meant command_of label_of is_exit function_command constant_declared signature_declared term_read sort_declared function_declared side trees_in word_of sort_meant is_reserved is_reserved_word shifted_formula shifted_term depth_of_formula depth_of_term depth_of_array varies variables_in hidden-the_row-Sexpr-0 hidden-the_row-Term-1 hidden-the_row-Formula-0 hidden
 first_faulty_sort = search (rules, formulas.the_lemmas, terms.the_lemmas)
 
 -- (declare-fun f Int Int)
@@ -283,7 +311,7 @@ function_without_sorts : script_meant
     (form 0 23 (list (symbol (codes "declare-fun") ∷ symbol (codes "f") ∷ symbol (codes "Int") ∷ symbol (codes "Int") ∷ []))
     ∷ [])
     ≡ Err (record { at = 0; kind = kind.BadForm })
-unfolding command_meant command_of label_of is_exit function_command constant_declared signature_declared formula_read sort_declared function_declared side trees_in word_of sort_meant is_reserved is_reserved_word shifted_formula shifted_term depth_of_formula depth_of_term depth_of_array varies variables_in hidden-the_row-Sexpr-0 hidden-the_row-Term-1 hidden-the_row-Formula-0 hidden
+unfolding command_meant command_of label_of is_exit function_command constant_declared signature_declared term_read sort_declared function_declared side trees_in word_of sort_meant is_reserved is_reserved_word shifted_formula shifted_term depth_of_formula depth_of_term depth_of_array varies variables_in hidden-the_row-Sexpr-0 hidden-the_row-Term-1 hidden-the_row-Formula-0 hidden
 function_without_sorts = search (rules, formulas.the_lemmas, terms.the_lemmas)
 
 -- (check-sat)(define-fun g () Bool true)
@@ -292,7 +320,7 @@ definition_behind_the_question : script_meant
     ∷ form 11 38 (list (symbol (codes "define-fun") ∷ symbol (codes "g") ∷ list ([]) ∷ symbol (codes "Bool") ∷ symbol (codes "true") ∷ []))
     ∷ [])
     ≡ Err (record { at = 11; kind = kind.Unsupported })
-unfolding command_meant command_of definition_behind definition_parts label_of is_exit function_command constant_declared signature_declared formula_read sort_declared function_declared side trees_in word_of sort_meant is_reserved is_reserved_word shifted_formula shifted_term depth_of_formula depth_of_term depth_of_array varies variables_in hidden-the_row-Sexpr-0 hidden-the_row-Term-1 hidden-the_row-Formula-0 hidden
+unfolding command_meant command_of definition_behind definition_parts label_of is_exit function_command constant_declared signature_declared term_read sort_declared function_declared side trees_in word_of sort_meant is_reserved is_reserved_word shifted_formula shifted_term depth_of_formula depth_of_term depth_of_array varies variables_in hidden-the_row-Sexpr-0 hidden-the_row-Term-1 hidden-the_row-Formula-0 hidden
 definition_behind_the_question = search (rules, formulas.the_lemmas, terms.the_lemmas)
 
 -- (check-sat)(define-fun let () Bool true)
@@ -301,7 +329,7 @@ reserved_definition_behind_the_question : script_meant
     ∷ form 11 40 (list (symbol (codes "define-fun") ∷ symbol (codes "let") ∷ list ([]) ∷ symbol (codes "Bool") ∷ symbol (codes "true") ∷ []))
     ∷ [])
     ≡ Err (record { at = 11; kind = kind.Unsupported })
-unfolding command_meant command_of definition_behind definition_parts label_of is_exit function_command constant_declared signature_declared formula_read sort_declared function_declared side trees_in word_of sort_meant is_reserved is_reserved_word shifted_formula shifted_term depth_of_formula depth_of_term depth_of_array varies variables_in hidden-the_row-Sexpr-0 hidden-the_row-Term-1 hidden-the_row-Formula-0 hidden
+unfolding command_meant command_of definition_behind definition_parts label_of is_exit function_command constant_declared signature_declared term_read sort_declared function_declared side trees_in word_of sort_meant is_reserved is_reserved_word shifted_formula shifted_term depth_of_formula depth_of_term depth_of_array varies variables_in hidden-the_row-Sexpr-0 hidden-the_row-Term-1 hidden-the_row-Formula-0 hidden
 reserved_definition_behind_the_question = search (rules, formulas.the_lemmas, terms.the_lemmas)
 
 -- (check-sat)(assert true)
@@ -310,7 +338,7 @@ assertion_behind_the_question : script_meant
     ∷ form 11 24 (list (symbol (codes "assert") ∷ symbol (codes "true") ∷ []))
     ∷ [])
     ≡ Err (record { at = 11; kind = kind.Unsupported })
-unfolding command_meant command_of label_of is_exit function_command constant_declared signature_declared formula_read sort_declared function_declared side trees_in word_of sort_meant is_reserved is_reserved_word shifted_formula shifted_term depth_of_formula depth_of_term depth_of_array varies variables_in hidden-the_row-Sexpr-0 hidden-the_row-Term-1 hidden-the_row-Formula-0 hidden
+unfolding command_meant command_of label_of is_exit function_command constant_declared signature_declared term_read sort_declared function_declared side trees_in word_of sort_meant is_reserved is_reserved_word shifted_formula shifted_term depth_of_formula depth_of_term depth_of_array varies variables_in hidden-the_row-Sexpr-0 hidden-the_row-Term-1 hidden-the_row-Formula-0 hidden
 assertion_behind_the_question = search (rules, formulas.the_lemmas, terms.the_lemmas)
 
 -- (check-sat)(assert q)
@@ -319,7 +347,7 @@ faulty_assertion_behind_the_question : script_meant
     ∷ form 11 21 (list (symbol (codes "assert") ∷ symbol (codes "q") ∷ []))
     ∷ [])
     ≡ Err (record { at = 11; kind = kind.UnknownName })
-unfolding command_meant command_of label_of is_exit function_command constant_declared signature_declared formula_read sort_declared function_declared side trees_in word_of sort_meant is_reserved is_reserved_word shifted_formula shifted_term depth_of_formula depth_of_term depth_of_array varies variables_in hidden-the_row-Sexpr-0 hidden-the_row-Term-1 hidden-the_row-Formula-0 hidden
+unfolding command_meant command_of label_of is_exit function_command constant_declared signature_declared term_read sort_declared function_declared side trees_in word_of sort_meant is_reserved is_reserved_word shifted_formula shifted_term depth_of_formula depth_of_term depth_of_array varies variables_in hidden-the_row-Sexpr-0 hidden-the_row-Term-1 hidden-the_row-Formula-0 hidden
 faulty_assertion_behind_the_question = search (rules, formulas.the_lemmas, terms.the_lemmas)
 
 -- (check-sat) (check-sat)
@@ -328,7 +356,7 @@ second_question : script_meant
     ∷ form 12 23 (list (symbol (codes "check-sat") ∷ []))
     ∷ [])
     ≡ Err (record { at = 12; kind = kind.Unsupported })
-unfolding command_meant command_of label_of is_exit function_command constant_declared signature_declared formula_read sort_declared function_declared side trees_in word_of sort_meant is_reserved is_reserved_word shifted_formula shifted_term depth_of_formula depth_of_term depth_of_array varies variables_in hidden-the_row-Sexpr-0 hidden-the_row-Term-1 hidden-the_row-Formula-0 hidden
+unfolding command_meant command_of label_of is_exit function_command constant_declared signature_declared term_read sort_declared function_declared side trees_in word_of sort_meant is_reserved is_reserved_word shifted_formula shifted_term depth_of_formula depth_of_term depth_of_array varies variables_in hidden-the_row-Sexpr-0 hidden-the_row-Term-1 hidden-the_row-Formula-0 hidden
 second_question = search (rules, formulas.the_lemmas, terms.the_lemmas)
 
 -- (check-sat x)
@@ -336,7 +364,7 @@ question_of_something : script_meant
     (form 0 13 (list (symbol (codes "check-sat") ∷ symbol (codes "x") ∷ []))
     ∷ [])
     ≡ Err (record { at = 0; kind = kind.BadForm })
-unfolding command_meant command_of label_of is_exit function_command constant_declared signature_declared formula_read sort_declared function_declared side trees_in word_of sort_meant is_reserved is_reserved_word shifted_formula shifted_term depth_of_formula depth_of_term depth_of_array varies variables_in hidden-the_row-Sexpr-0 hidden-the_row-Term-1 hidden-the_row-Formula-0 hidden
+unfolding command_meant command_of label_of is_exit function_command constant_declared signature_declared term_read sort_declared function_declared side trees_in word_of sort_meant is_reserved is_reserved_word shifted_formula shifted_term depth_of_formula depth_of_term depth_of_array varies variables_in hidden-the_row-Sexpr-0 hidden-the_row-Term-1 hidden-the_row-Formula-0 hidden
 question_of_something = search (rules, formulas.the_lemmas, terms.the_lemmas)
 
 -- (exit 1)
@@ -344,7 +372,7 @@ exit_from_something : script_meant
     (form 0 8 (list (symbol (codes "exit") ∷ numeral (codes "1") ∷ []))
     ∷ [])
     ≡ Err (record { at = 0; kind = kind.BadForm })
-unfolding command_meant command_of label_of is_exit function_command constant_declared signature_declared formula_read sort_declared function_declared side trees_in word_of sort_meant is_reserved is_reserved_word shifted_formula shifted_term depth_of_formula depth_of_term depth_of_array varies variables_in hidden-the_row-Sexpr-0 hidden-the_row-Term-1 hidden-the_row-Formula-0 hidden
+unfolding command_meant command_of label_of is_exit function_command constant_declared signature_declared term_read sort_declared function_declared side trees_in word_of sort_meant is_reserved is_reserved_word shifted_formula shifted_term depth_of_formula depth_of_term depth_of_array varies variables_in hidden-the_row-Sexpr-0 hidden-the_row-Term-1 hidden-the_row-Formula-0 hidden
 exit_from_something = search (rules, formulas.the_lemmas, terms.the_lemmas)
 
 -- (get-model)(push 1)
@@ -353,7 +381,7 @@ command_left_out : script_meant
     ∷ form 11 19 (list (symbol (codes "push") ∷ numeral (codes "1") ∷ []))
     ∷ [])
     ≡ Err (record { at = 11; kind = kind.Unsupported })
-unfolding command_meant command_of label_of is_exit function_command constant_declared signature_declared formula_read sort_declared function_declared side trees_in word_of sort_meant is_reserved is_reserved_word shifted_formula shifted_term depth_of_formula depth_of_term depth_of_array varies variables_in hidden-the_row-Sexpr-0 hidden-the_row-Term-1 hidden-the_row-Formula-0 hidden
+unfolding command_meant command_of label_of is_exit function_command constant_declared signature_declared term_read sort_declared function_declared side trees_in word_of sort_meant is_reserved is_reserved_word shifted_formula shifted_term depth_of_formula depth_of_term depth_of_array varies variables_in hidden-the_row-Sexpr-0 hidden-the_row-Term-1 hidden-the_row-Formula-0 hidden
 command_left_out = search (rules, formulas.the_lemmas, terms.the_lemmas)
 
 -- p
@@ -361,7 +389,7 @@ symbol_as_a_form : script_meant
     (form 0 1 (symbol (codes "p"))
     ∷ [])
     ≡ Err (record { at = 0; kind = kind.BadForm })
-unfolding command_meant command_of label_of is_exit function_command constant_declared signature_declared formula_read sort_declared function_declared side trees_in word_of sort_meant is_reserved is_reserved_word shifted_formula shifted_term depth_of_formula depth_of_term depth_of_array varies variables_in hidden-the_row-Sexpr-0 hidden-the_row-Term-1 hidden-the_row-Formula-0 hidden
+unfolding command_meant command_of label_of is_exit function_command constant_declared signature_declared term_read sort_declared function_declared side trees_in word_of sort_meant is_reserved is_reserved_word shifted_formula shifted_term depth_of_formula depth_of_term depth_of_array varies variables_in hidden-the_row-Sexpr-0 hidden-the_row-Term-1 hidden-the_row-Formula-0 hidden
 symbol_as_a_form = search (rules, formulas.the_lemmas, terms.the_lemmas)
 
 --  ()
@@ -369,7 +397,7 @@ empty_list : script_meant
     (form 1 3 (list ([]))
     ∷ [])
     ≡ Err (record { at = 1; kind = kind.BadForm })
-unfolding command_meant command_of label_of is_exit function_command constant_declared signature_declared formula_read sort_declared function_declared side trees_in word_of sort_meant is_reserved is_reserved_word shifted_formula shifted_term depth_of_formula depth_of_term depth_of_array varies variables_in hidden-the_row-Sexpr-0 hidden-the_row-Term-1 hidden-the_row-Formula-0 hidden
+unfolding command_meant command_of label_of is_exit function_command constant_declared signature_declared term_read sort_declared function_declared side trees_in word_of sort_meant is_reserved is_reserved_word shifted_formula shifted_term depth_of_formula depth_of_term depth_of_array varies variables_in hidden-the_row-Sexpr-0 hidden-the_row-Term-1 hidden-the_row-Formula-0 hidden
 empty_list = search (rules, formulas.the_lemmas, terms.the_lemmas)
 
 -- ((exit))
@@ -377,7 +405,7 @@ list_without_a_word : script_meant
     (form 0 8 (list (list (symbol (codes "exit") ∷ []) ∷ []))
     ∷ [])
     ≡ Err (record { at = 0; kind = kind.BadForm })
-unfolding command_meant command_of label_of is_exit function_command constant_declared signature_declared formula_read sort_declared function_declared side trees_in word_of sort_meant is_reserved is_reserved_word shifted_formula shifted_term depth_of_formula depth_of_term depth_of_array varies variables_in hidden-the_row-Sexpr-0 hidden-the_row-Term-1 hidden-the_row-Formula-0 hidden
+unfolding command_meant command_of label_of is_exit function_command constant_declared signature_declared term_read sort_declared function_declared side trees_in word_of sort_meant is_reserved is_reserved_word shifted_formula shifted_term depth_of_formula depth_of_term depth_of_array varies variables_in hidden-the_row-Sexpr-0 hidden-the_row-Term-1 hidden-the_row-Formula-0 hidden
 list_without_a_word = search (rules, formulas.the_lemmas, terms.the_lemmas)
 
 -- (assert (p

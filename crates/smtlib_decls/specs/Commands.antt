@@ -1,34 +1,25 @@
 -- What a command adds to a script (SMT-LIB 2.6, section 3.9, in this project's profile and order of kinds).
-use Rattle.std.specs.Prelude.{ℕ, Bool, true, false, ◌&&◌, List, [], ◌∷◌, ◌++◌, codes, Option, None, Some, unwrap_or, Result, Ok, Err, if◌then◌else◌}
+use Rattle.std.specs.Prelude.{ℕ, Bool, true, false, ◌&&◌, List, [], ◌∷◌, ◌++◌, codes, Option, None, Some, is_some, unwrap_or, Result, Ok, Err, if◌then◌else◌}
+use Rattle.std.specs.Option.{option_map_or}
 use Rattle.mbqi_values.specs.declared.fault.FaultKind.{FaultKind}
 use Rattle.mbqi_values.specs.declared.fault.FaultKind.TheVariants.{BadForm, Unsupported, Twice}
 use Rattle.mbqi_terms.specs.declared.formula.Formula.{Formula}
 use Rattle.mbqi_terms.specs.declared.sort.Sort.{Sort}
 use Rattle.sexpr_text.specs.declared.tree.Sexpr.{Sexpr}
 use Rattle.sexpr_text.specs.declared.tree.Sexpr.TheVariants as tree
-use Rattle.smtlib_terms.specs.Declaring.{Declarations, formula_read, function_declared, macro_defined, sort_declared, sort_read}
+use Rattle.sexpr_text.specs.Trees.{numeral_in}
+use Rattle.smtlib_terms.specs.Declaring.{Declarations, definition_parts, function_declared, macro_defined, sort_declared, sort_read, term_read}
+use Rattle.smtlib_terms.specs.declared.meaning.Meaning.{Meaning}
 use Rattle.smtlib_terms.specs.Names.{◌>>=◌}
+use Rattle.smtlib_terms.specs.Operators.{as_formula}
 use Rattle.smtlib_terms.specs.Reading.{is_list, is_some_symbol, text_of, trees_in}
-use Rattle.smtlib_terms.specs.Words.{is_one_of, is_text}
-use Rattle.term_reader.specs.Defining.{definition_parts}
+use Rattle.smtlib_terms.specs.Words.{is_one_of, is_text, passed_over_words}
 use Rattle.smtlib_decls.specs.declared.command.Command.{Command}
 use Rattle.smtlib_decls.specs.declared.command.Command.TheVariants as command
 use Rattle.smtlib_decls.specs.declared.progress.Progress.{Progress}
 use Rattle.smtlib_decls.specs.Labels.{is_taken, label_of}
 
--- The words of commands that are passed over.
-abbrev pub passed_over_words : List (List ℕ)
-passed_over_words =
-    codes "set-logic"
-    ∷ codes "set-info"
-    ∷ codes "set-option"
-    ∷ codes "get-model"
-    ∷ codes "get-info"
-    ∷ codes "get-unsat-core"
-    ∷ codes "echo"
-    ∷ []
-
--- The words of the other commands of the profile.
+-- The words of the profile's commands that aren't passed over.
 abbrev pub command_words : List (List ℕ × Command)
 command_words =
     (codes "declare-sort", command.DeclareSort)
@@ -61,12 +52,10 @@ abbrev pub renamed : Progress → Result Declarations FaultKind → Result Progr
 renamed p meant = meant >>= (λ names. Ok (with_names p names))
 
 abbrev pub is_numeral : Sexpr → Bool
-is_numeral (tree.Numeral text) = true
-is_numeral other = false
+is_numeral t = is_some (numeral_in t)
 
 abbrev pub is_zero : Sexpr → Bool
-is_zero (tree.Numeral text) = is_text text (codes "0")
-is_zero other = false
+is_zero t = option_map_or (λ text. is_text text (codes "0")) (numeral_in t) false
 
 -- `(declare-sort s 0)`: sorts with parameters are left out.
 abbrev pub sort_command : Progress → List Sexpr → Result Progress FaultKind
@@ -118,12 +107,21 @@ abbrev pub with_assertion : Progress → Option (List ℕ) → Formula → Progr
 with_assertion p label f =
     record { names = p.names; assertions = p.assertions ++ record { label = label; formula = f } ∷ []; asks = p.asks }
 
-abbrev pub asserted : Progress → Option (List ℕ) → Formula → Result Progress FaultKind
-asserted p label f = unless_asked p (if is_taken label p.assertions then Err Twice else Ok (with_assertion p label f))
+-- Whether an assertion with this label, or without one, may stand behind what was read.
+abbrev pub may_assert : Progress → Option (List ℕ) → Result (Unit {0}) FaultKind
+may_assert p label = unless_asked p (if is_taken label p.assertions then Err Twice else Ok tt)
+
+-- A label that no assertion has, or none, and a term that is a formula.
+abbrev pub labelled : Progress → Option (List ℕ) → Meaning → Result Progress FaultKind
+labelled p label m =
+    if is_taken label p.assertions then Err Twice else as_formula m >>= (λ f. Ok (with_assertion p label f))
+
+abbrev pub asserted : Progress → Option (List ℕ) → Meaning → Result Progress FaultKind
+asserted p label m = unless_asked p (labelled p label m)
 
 -- `(assert t)`
 abbrev pub assertion_command : Progress → List Sexpr → Result Progress FaultKind
-assertion_command p (t ∷ []) = label_of t >>= (λ label. formula_read p.names t >>= (λ f. asserted p label f))
+assertion_command p (t ∷ []) = label_of t >>= (λ label. term_read p.names t >>= asserted p label)
 assertion_command p parts = Err BadForm
 
 -- `(check-sat)`, once.

@@ -1,11 +1,12 @@
 -- Labels of assertions (SMT-LIB 2.6, section 3.9: `:named`).
 use Rattle.std.specs.Prelude.{◌≡◌, ℕ, ◌+◌, Bool, false, List, [], ◌∷◌, drop, codes, Option, None, Some, Result, Ok, Err, if◌then◌else◌}
 use Rattle.std.specs.List.{list_any, position}
+use Rattle.std.specs.Option.{option_map_or}
 use Rattle.mbqi_values.specs.declared.fault.FaultKind.{FaultKind}
 use Rattle.mbqi_values.specs.declared.fault.FaultKind.TheVariants.{BadForm}
 use Rattle.mbqi_terms.specs.declared.script.Assertion.{Assertion}
 use Rattle.sexpr_text.specs.declared.tree.Sexpr.{Sexpr}
-use Rattle.sexpr_text.specs.declared.tree.Sexpr.TheVariants as tree
+use Rattle.sexpr_text.specs.Trees.{keyword_in}
 use Rattle.smtlib_terms.specs.Names.{is_symbol}
 use Rattle.smtlib_terms.specs.Reading.{is_some_symbol, text_of, trees_in}
 use Rattle.name_tables.specs.Names.{with_name}
@@ -13,8 +14,7 @@ use Rattle.smtlib_terms.specs.Words.{is_one_of, is_text}
 
 -- The keyword `:named`.
 abbrev pub is_named : Sexpr → Bool
-is_named (tree.Keyword text) = is_text text (codes "named")
-is_named other = false
+is_named t = option_map_or (λ text. is_text text (codes "named")) (keyword_in t) false
 
 abbrev pub first_symbol : List Sexpr → Result (Option (List ℕ)) FaultKind
 first_symbol [] = Err BadForm

@@ -1,9 +1,9 @@
 //! The words of commands.
 
 ghost use Rattle.std.specs.Prelude.{◌≡◌};
-ghost use Rattle.std.specs.List.{list_any};
-ghost use Rattle.smtlib_terms.specs.Words.{is_one_of, is_text};
-ghost use Rattle.smtlib_decls.specs.Commands.{command_among, command_of, command_words, passed_over_words};
+ghost use Rattle.smtlib_decls.specs.Commands.{command_among, command_of, command_words};
+
+use smtlib_terms::word::is_passed_over;
 
 /// A command, by its word (SMT-LIB 2.6, section 3.9).
 #[derive(Clone, Copy, Debug, PartialEq, Eq)]
@@ -19,31 +19,6 @@ pub enum Command {
     Exit,
     /// Any other word, also of a command that this profile leaves out.
     Unknown,
-}
-
-/// Whether the text is one of these words.
-fn is_among(words: &[&str], text: &[u8]) -> bool
-    ensures { result ≡ list_any (λ word. is_text word.now text.now) words.now }
-{
-    words.iter().any(|word| word.as_bytes() == text)
-}
-
-/// Whether the text is the word of a command that is passed over.
-fn is_passed_over(text: &[u8]) -> bool
-    ensures { result ≡ is_one_of passed_over_words text.now }
-{
-    is_among(
-        &[
-            "set-logic",
-            "set-info",
-            "set-option",
-            "get-model",
-            "get-info",
-            "get-unsat-core",
-            "echo",
-        ],
-        text,
-    )
 }
 
 /// The command of another word, unless the profile has none of that word.

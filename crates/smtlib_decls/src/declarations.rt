@@ -2,7 +2,6 @@
 
 ghost use Rattle.std.specs.Prelude.{◌≡◌, []};
 ghost use Rattle.smtlib_terms.specs.Answers.{Answers, IsFault};
-ghost use Rattle.smtlib_terms.specs.Reading.{is_list};
 ghost use Rattle.smtlib_decls.specs.Commands.{constant_command, constant_declared, definition_behind, definition_command, function_command, is_numeral, is_zero, signature_command, signature_declared, sort_command, sorts_read};
 ghost use Rattle.smtlib_decls.specs.Takes.{Takes};
 
@@ -11,7 +10,7 @@ use mbqi_terms::{Sort, Sorts};
 use mbqi_values::{FaultKind, ReadError};
 use sexpr_text::Sexpr;
 use smtlib_names::names::{Names, read_sort};
-use smtlib_names::trees::{is_some_symbol, text_of, trees_in};
+use smtlib_names::trees::{is_list, is_some_symbol, text_of, trees_in};
 use smtlib_terms::refused;
 use std::alloc::Global;
 use term_reader::{check_definition, define_macro};
@@ -20,48 +19,14 @@ use term_reader::{check_definition, define_macro};
 fn is_numeral(tree: &Sexpr) -> bool
     ensures { result ≡ is_numeral tree.now }
 {
-    match tree {
-        Sexpr::Numeral(_) => true,
-        Sexpr::Decimal(_)
-        | Sexpr::Hex(_)
-        | Sexpr::Binary(_)
-        | Sexpr::Str(_)
-        | Sexpr::Symbol(_)
-        | Sexpr::Keyword(_)
-        | Sexpr::List(_) => false,
-    }
+    tree.as_numeral().is_some()
 }
 
 /// Whether a tree is the numeral 0.
 fn is_zero(tree: &Sexpr) -> bool
     ensures { result ≡ is_zero tree.now }
 {
-    match tree {
-        Sexpr::Numeral(text) => text.as_slice() == b"0".as_slice(),
-        Sexpr::Decimal(_)
-        | Sexpr::Hex(_)
-        | Sexpr::Binary(_)
-        | Sexpr::Str(_)
-        | Sexpr::Symbol(_)
-        | Sexpr::Keyword(_)
-        | Sexpr::List(_) => false,
-    }
-}
-
-/// Whether a tree is a list.
-fn is_list(tree: &Sexpr) -> bool
-    ensures { result ≡ is_list tree.now }
-{
-    match tree {
-        Sexpr::List(_) => true,
-        Sexpr::Numeral(_)
-        | Sexpr::Decimal(_)
-        | Sexpr::Hex(_)
-        | Sexpr::Binary(_)
-        | Sexpr::Str(_)
-        | Sexpr::Symbol(_)
-        | Sexpr::Keyword(_) => false,
-    }
+    tree.as_numeral() == Some(b"0".as_slice())
 }
 
 /// Takes `(declare-sort s 0)`, behind its word.

@@ -15,16 +15,7 @@ use std::alloc::Global;
 fn is_named(tree: &Sexpr) -> bool
     ensures { result ≡ is_named tree.now }
 {
-    match tree {
-        Sexpr::Keyword(text) => text.as_slice() == b"named".as_slice(),
-        Sexpr::Numeral(_)
-        | Sexpr::Decimal(_)
-        | Sexpr::Hex(_)
-        | Sexpr::Binary(_)
-        | Sexpr::Str(_)
-        | Sexpr::Symbol(_)
-        | Sexpr::List(_) => false,
-    }
+    tree.as_keyword() == Some(b"named".as_slice())
 }
 
 /// Whether one of the trees is `:named`.

@@ -2,10 +2,11 @@
 
 ghost use Rattle.std.specs.Prelude.{◌≡◌, [], ◌∷◌, length, false, None, Some, MatchOption, OnOk, OnErr};
 ghost use Rattle.std.specs.List.{list_all, list_any};
-ghost use Rattle.smtlib_terms.specs.Names.{function_named, is_array, macro_named};
+ghost use Rattle.smtlib_terms.specs.Names.{function_named, macro_named};
 ghost use Rattle.smtlib_terms.specs.Answers.{Answers, Declares};
 ghost use Rattle.smtlib_terms.specs.Words.{is_one_of};
 ghost use Rattle.smtlib_terms.specs.Declaring.{function_declared, is_first_order, is_function, is_supported, names_before, reader_of, released, sort_declared, sort_read, with_definition, with_function};
+ghost use Rattle.mbqi_terms.specs.Sort.{is_array};
 
 use crate::sorts::sort_of_tree;
 use crate::table::Table;
@@ -29,12 +30,12 @@ pub struct Names {
 
 impl Model for Names {
     ghost use Rattle.std.specs.Coded.{codes};
-    ghost use Rattle.sexpr_text.specs.contracts.tree.Sexpr as tree;
+    ghost use Rattle.smtlib_terms.specs.contracts.names.Macro as definition;
     ghost use Rattle.smtlib_terms.specs.Declaring.{Declarations};
 
     ghost Value = { Declarations };
 
-    ghost coded = { Prim.hlevel (codes, tree.the_row.coded) };
+    ghost coded = { Prim.hlevel (codes, definition.the_row.coded) };
 
     ghost use Rattle.smtlib_names.specs.Named.{AreNamed};
 

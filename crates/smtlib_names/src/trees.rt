@@ -3,57 +3,37 @@
 ghost use Rattle.std.specs.Prelude.{◌≡◌};
 ghost use Rattle.std.specs.List.{list_all};
 ghost use Rattle.smtlib_terms.specs.Names.{is_symbol};
-ghost use Rattle.smtlib_terms.specs.Reading.{are_binders, binder_name, is_binder, is_some_symbol, text_of, trees_in};
+ghost use Rattle.smtlib_terms.specs.Reading.{are_binders, binder_name, is_binder, is_list, is_some_symbol, text_of, trees_in};
 
 use sexpr_text::Sexpr;
 
 /// The trees in a list; none in another tree.
-#[tactic(auto, using(smtlib_terms::proofs::TermTrees::term_laws))]
+#[tactic(auto, unfolding(smtlib_terms::specs::Reading::trees_in))]
 pub fn trees_in(tree: &Sexpr) -> &[Sexpr]
     ensures { result.now ≡ trees_in tree.now }
 {
-    match tree {
-        Sexpr::List(items) => items.as_slice(),
-        Sexpr::Numeral(_)
-        | Sexpr::Decimal(_)
-        | Sexpr::Hex(_)
-        | Sexpr::Binary(_)
-        | Sexpr::Str(_)
-        | Sexpr::Symbol(_)
-        | Sexpr::Keyword(_) => &[],
-    }
+    tree.as_list().unwrap_or(&[])
+}
+
+/// Whether a tree is a list.
+pub fn is_list(tree: &Sexpr) -> bool
+    ensures { result ≡ is_list tree.now }
+{
+    tree.as_list().is_some()
 }
 
 /// Whether a tree is a symbol.
 pub fn is_some_symbol(tree: &Sexpr) -> bool
     ensures { result ≡ is_some_symbol tree.now }
 {
-    match tree {
-        Sexpr::Symbol(_) => true,
-        Sexpr::Numeral(_)
-        | Sexpr::Decimal(_)
-        | Sexpr::Hex(_)
-        | Sexpr::Binary(_)
-        | Sexpr::Str(_)
-        | Sexpr::Keyword(_)
-        | Sexpr::List(_) => false,
-    }
+    tree.as_symbol().is_some()
 }
 
 /// The text of a symbol; nothing of another tree.
 pub fn text_of(tree: &Sexpr) -> &[u8]
     ensures { result.now ≡ text_of tree.now }
 {
-    match tree {
-        Sexpr::Symbol(text) => text.as_slice(),
-        Sexpr::Numeral(_)
-        | Sexpr::Decimal(_)
-        | Sexpr::Hex(_)
-        | Sexpr::Binary(_)
-        | Sexpr::Str(_)
-        | Sexpr::Keyword(_)
-        | Sexpr::List(_) => &[],
-    }
+    tree.as_symbol().unwrap_or(&[])
 }
 
 /// Whether a tree is a binder or binding: a list of a symbol and one more tree.
@@ -97,14 +77,5 @@ pub fn binder_name(tree: &Sexpr) -> &[u8]
 pub fn is_symbol(tree: &Sexpr, name: &[u8]) -> bool
     ensures { result ≡ is_symbol name.now tree.now }
 {
-    match tree {
-        Sexpr::Symbol(text) => text.as_slice() == name,
-        Sexpr::Numeral(_)
-        | Sexpr::Decimal(_)
-        | Sexpr::Hex(_)
-        | Sexpr::Binary(_)
-        | Sexpr::Str(_)
-        | Sexpr::Keyword(_)
-        | Sexpr::List(_) => false,
-    }
+    tree.as_symbol() == Some(name)
 }

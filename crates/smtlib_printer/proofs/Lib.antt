@@ -1,4 +1,5 @@
 pub mod FormulaTexts
+pub mod Fronts
 pub mod Longest
 pub mod Marks
 pub mod Pieces

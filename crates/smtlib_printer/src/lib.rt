@@ -6,7 +6,8 @@
 
 #![tactic(auto)]
 
-ghost use Rattle.std.specs.Prelude.{◌≡◌, ◌++◌, OnOk};
+ghost use Rattle.std.specs.Prelude.{◌≡◌, ◌++◌, OnOk, OnErr};
+ghost use Rattle.std.specs.Io.{StartsWith};
 ghost use Rattle.smtlib_printer.specs.Text.{array_text, formula_text, term_text};
 
 mod formulas;
@@ -26,14 +27,16 @@ pub use terms::{write_array_with, write_term_with, write_terms_with};
 /// Appends the text of a term of the script. Numbers of sorts and functions that the script lacks print as the
 /// empty name. The one error is want of memory, after which a front of the text may stand there.
 pub fn write_term(script: &Script, term: &Term, into: &mut Vec<u8>) -> Result<(), AllocError>
-    ensures { OnOk result (into.new.items ≡ into.old.items ++ term_text script.now term.now) }
+    ensures ok { OnOk result (into.new.items ≡ into.old.items ++ term_text script.now term.now) }
+    ensures err { OnErr result (StartsWith into.new.items into.old.items) }
 {
     write_term_with(script, question_marks(script), term, into)
 }
 
 /// Appends the text of an array term of the script, as [`write_term`] does.
 pub fn write_array(script: &Script, array: &ArrayTerm, into: &mut Vec<u8>) -> Result<(), AllocError>
-    ensures { OnOk result (into.new.items ≡ into.old.items ++ array_text script.now array.now) }
+    ensures ok { OnOk result (into.new.items ≡ into.old.items ++ array_text script.now array.now) }
+    ensures err { OnErr result (StartsWith into.new.items into.old.items) }
 {
     write_array_with(script, question_marks(script), array, into)
 }
@@ -44,7 +47,8 @@ pub fn write_formula(
     formula: &Formula,
     into: &mut Vec<u8>,
 ) -> Result<(), AllocError>
-    ensures { OnOk result (into.new.items ≡ into.old.items ++ formula_text script.now formula.now) }
+    ensures ok { OnOk result (into.new.items ≡ into.old.items ++ formula_text script.now formula.now) }
+    ensures err { OnErr result (StartsWith into.new.items into.old.items) }
 {
     write_formula_with(script, question_marks(script), formula, into)
 }

@@ -1,21 +1,22 @@
 //! Names of a script, and those of its variables.
 
-ghost use Rattle.std.specs.Prelude.{◌≡◌, ◌<◌, ℕ, true, false, ◌++◌, ◌==◌, OnOk};
+ghost use Rattle.std.specs.Prelude.{◌≡◌, ◌<◌, ℕ, true, false, ◌++◌, ◌==◌, OnOk, OnErr};
+ghost use Rattle.std.specs.Io.{StartsWith};
 ghost use Rattle.std.specs.List.{list_all, list_any};
-ghost use Rattle.sexpr_text.specs.Bytes.{is_symbol_byte};
-ghost use Rattle.sexpr_text.specs.Text.{is_simple};
 ghost use Rattle.smtlib_printer.specs.Names.{begins_with, function_name, is_begun, longest, longest_function, marks_of, name_text, sort_name, variable_text};
 
 use itoa::Buffer;
 use mbqi_terms::{Function, Script};
 use mbqi_values::Text;
+use sexpr_text::is_simple;
 use smtlib_terms::word::is_reserved_word;
 use std::alloc::AllocError;
 
 /// Appends a name: between bars where it is no simple symbol, or is a reserved word. The one error is want of memory,
 /// after which a front of the text may stand there.
 pub fn write_name(name: &[u8], into: &mut Vec<u8>) -> Result<(), AllocError>
-    ensures { OnOk result (into.new.items ≡ into.old.items ++ name_text name.now) }
+    ensures ok { OnOk result (into.new.items ≡ into.old.items ++ name_text name.now) }
+    ensures err { OnErr result (StartsWith into.new.items into.old.items) }
 {
     if is_simple(name) && !is_reserved_word(name) {
         return into.extend_from_slice(name);
@@ -25,34 +26,14 @@ pub fn write_name(name: &[u8], into: &mut Vec<u8>) -> Result<(), AllocError>
     into.extend_from_slice(b"|")
 }
 
-/// Whether a symbol needs no bars, reserved words apart.
-#[tactic(auto, unfolding(sexpr_text::specs::Text::is_simple))]
-fn is_simple(text: &[u8]) -> bool
-    ensures { result ≡ is_simple text.now }
-{
-    !text.is_empty() && are_symbol_bytes(text) && !text[0].is_ascii_digit()
-}
-
-fn are_symbol_bytes(text: &[u8]) -> bool
-    ensures { result ≡ list_all is_symbol_byte text.now }
-{
-    text.iter().all(|byte| is_symbol_byte(*byte))
-}
-
-#[tactic(auto, unfolding(sexpr_text::specs::Bytes::is_symbol_byte))]
-fn is_symbol_byte(byte: u8) -> bool
-    ensures { result ≡ is_symbol_byte byte }
-{
-    byte.is_ascii_alphanumeric() || b"~!@$%^&*_-+=<>.?/".contains(&byte)
-}
-
 /// Appends the name of a declared sort, or the empty name.
 pub(crate) fn write_sort_name(
     script: &Script,
     sort: usize,
     into: &mut Vec<u8>,
 ) -> Result<(), AllocError>
-    ensures { OnOk result (into.new.items ≡ into.old.items ++ sort_name script.now sort) }
+    ensures ok { OnOk result (into.new.items ≡ into.old.items ++ sort_name script.now sort) }
+    ensures err { OnErr result (StartsWith into.new.items into.old.items) }
 {
     match script.sorts.get(sort) {
         Some(name) => write_name(name.as_slice(), into),
@@ -66,7 +47,8 @@ pub(crate) fn write_function_name(
     function: usize,
     into: &mut Vec<u8>,
 ) -> Result<(), AllocError>
-    ensures { OnOk result (into.new.items ≡ into.old.items ++ function_name script.now function) }
+    ensures ok { OnOk result (into.new.items ≡ into.old.items ++ function_name script.now function) }
+    ensures err { OnErr result (StartsWith into.new.items into.old.items) }
 {
     match script.functions.get(function) {
         Some(declared) => write_name(declared.name.as_slice(), into),
@@ -81,7 +63,8 @@ pub(crate) fn write_variable(
     place: usize,
     into: &mut Vec<u8>,
 ) -> Result<(), AllocError>
-    ensures { OnOk result (into.new.items ≡ into.old.items ++ variable_text marks place) }
+    ensures ok { OnOk result (into.new.items ≡ into.old.items ++ variable_text marks place) }
+    ensures err { OnErr result (StartsWith into.new.items into.old.items) }
 {
     for _at in 0..marks {
         into.push(b'?')?;

@@ -1,6 +1,7 @@
 //! Terms and array terms.
 
-ghost use Rattle.std.specs.Prelude.{◌≡◌, ◌&&◌, [], ◌∷◌, ◌++◌, map, codes, decimal, OnOk};
+ghost use Rattle.std.specs.Prelude.{◌≡◌, ◌&&◌, [], ◌∷◌, ◌++◌, map, codes, decimal, OnOk, OnErr};
+ghost use Rattle.std.specs.Io.{StartsWith};
 ghost use Rattle.smtlib_printer.specs.Text.{array_text_with, is_nothing, spaced, spaced_rest, symbol_text_with, term_text_with, terms_text_with};
 
 use crate::names::{write_function_name, write_sort_name, write_variable};
@@ -17,11 +18,12 @@ pub fn write_term_with(
     term: &Term,
     into: &mut Vec<u8>,
 ) -> Result<(), AllocError>
-    ensures { OnOk result (into.new.items ≡ into.old.items ++ term_text_with script.now marks term.now) }
+    ensures ok { OnOk result (into.new.items ≡ into.old.items ++ term_text_with script.now marks term.now) }
+    ensures err { OnErr result (StartsWith into.new.items into.old.items) }
 {
     match term {
         Term::Num(n) => write_number(*n, into),
-        #[tactic(auto, using(crate::proofs::TermTexts::plus_text))]
+        #[tactic(auto, using(crate::proofs::TermTexts::plus_text, crate::proofs::Fronts::behind))]
         Term::Plus(t, n) => {
             into.extend_from_slice(b"(+ ")?;
             write_term_with(script, marks, t.get(), into)?;
@@ -31,7 +33,7 @@ pub fn write_term_with(
         }
         Term::Var(place) => write_variable(marks, *place, into),
         Term::Truth(truth) => write_truth(*truth, into),
-        #[tactic(auto, using(crate::proofs::TermTexts::alone_text, crate::proofs::TermTexts::apply_text))]
+        #[tactic(auto, using(crate::proofs::TermTexts::alone_text, crate::proofs::TermTexts::apply_text, crate::proofs::Fronts::behind))]
         Term::Apply(symbol, args) => {
             if stands_alone(script, marks, symbol, args.as_slice()) {
                 return write_symbol(script, marks, symbol, into);
@@ -41,7 +43,7 @@ pub fn write_term_with(
             write_more_terms(script, marks, args.as_slice(), into)?;
             into.extend_from_slice(b")")
         }
-        #[tactic(auto, using(crate::proofs::TermTexts::read_text))]
+        #[tactic(auto, using(crate::proofs::TermTexts::read_text, crate::proofs::Fronts::behind))]
         Term::Read(a, i) => {
             into.extend_from_slice(b"(select ")?;
             write_array_with(script, marks, a.get(), into)?;
@@ -49,7 +51,7 @@ pub fn write_term_with(
             write_term_with(script, marks, i.get(), into)?;
             into.extend_from_slice(b")")
         }
-        #[tactic(auto, using(crate::proofs::TermTexts::default_text))]
+        #[tactic(auto, using(crate::proofs::TermTexts::default_text, crate::proofs::Fronts::behind))]
         Term::Default(a) => {
             into.extend_from_slice(b"(default ")?;
             write_array_with(script, marks, a.get(), into)?;
@@ -80,14 +82,16 @@ fn is_word(_script: &Script, _marks: usize, symbol: &Symbol) -> bool
 
 /// Appends the word of a symbol with the arguments of its own.
 #[cycle(write)]
+#[tactic(auto, using(crate::proofs::Fronts::behind))]
 fn write_symbol(
     script: &Script,
     marks: usize,
     symbol: &Symbol,
     into: &mut Vec<u8>,
 ) -> Result<(), AllocError>
-    ensures { let text = symbol_text_with script.now marks symbol.now in
+    ensures ok { let text = symbol_text_with script.now marks symbol.now in
         OnOk result (into.new.items ≡ into.old.items ++ spaced (text.word ∷ text.own)) }
+    ensures err { OnErr result (StartsWith into.new.items into.old.items) }
 {
     match symbol {
         Symbol::Declared(function) => write_function_name(script, *function, into),
@@ -107,7 +111,8 @@ fn write_symbol(
 }
 
 fn write_skolem(assertion: usize, place: usize, into: &mut Vec<u8>) -> Result<(), AllocError>
-    ensures { OnOk result (into.new.items ≡ into.old.items ++ spaced (codes "@sk" ∷ decimal assertion ∷ decimal place ∷ [])) }
+    ensures ok { OnOk result (into.new.items ≡ into.old.items ++ spaced (codes "@sk" ∷ decimal assertion ∷ decimal place ∷ [])) }
+    ensures err { OnErr result (StartsWith into.new.items into.old.items) }
 {
     into.extend_from_slice(b"@sk ")?;
     into.extend_from_slice(Buffer::new().format(assertion).as_bytes())?;
@@ -122,7 +127,8 @@ pub fn write_terms_with(
     terms: &[Term],
     into: &mut Vec<u8>,
 ) -> Result<(), AllocError>
-    ensures { OnOk result (into.new.items ≡ into.old.items ++ terms_text_with script.now marks terms.now) }
+    ensures ok { OnOk result (into.new.items ≡ into.old.items ++ terms_text_with script.now marks terms.now) }
+    ensures err { OnErr result (StartsWith into.new.items into.old.items) }
 {
     into.extend_from_slice(b"(")?;
     if let [first, rest @ ..] = terms {
@@ -134,13 +140,15 @@ pub fn write_terms_with(
 
 /// Appends terms, each behind a blank.
 #[cycle(write)]
+#[tactic(auto, using(crate::proofs::Fronts::behind))]
 fn write_more_terms(
     script: &Script,
     marks: usize,
     terms: &[Term],
     into: &mut Vec<u8>,
 ) -> Result<(), AllocError>
-    ensures { OnOk result (into.new.items ≡ into.old.items ++ spaced_rest (map (term_text_with script.now marks) terms.now)) }
+    ensures ok { OnOk result (into.new.items ≡ into.old.items ++ spaced_rest (map (term_text_with script.now marks) terms.now)) }
+    ensures err { OnErr result (StartsWith into.new.items into.old.items) }
 {
     for t in terms {
         into.extend_from_slice(b" ")?;
@@ -157,11 +165,12 @@ pub fn write_array_with(
     array: &ArrayTerm,
     into: &mut Vec<u8>,
 ) -> Result<(), AllocError>
-    ensures { OnOk result (into.new.items ≡ into.old.items ++ array_text_with script.now marks array.now) }
+    ensures ok { OnOk result (into.new.items ≡ into.old.items ++ array_text_with script.now marks array.now) }
+    ensures err { OnErr result (StartsWith into.new.items into.old.items) }
 {
     match array {
         ArrayTerm::Name(function) => write_function_name(script, *function, into),
-        #[tactic(auto, using(crate::proofs::TermTexts::store_text))]
+        #[tactic(auto, using(crate::proofs::TermTexts::store_text, crate::proofs::Fronts::behind))]
         ArrayTerm::Store(a, i, v) => {
             into.extend_from_slice(b"(store ")?;
             write_array_with(script, marks, a.get(), into)?;
@@ -171,7 +180,7 @@ pub fn write_array_with(
             write_term_with(script, marks, v.get(), into)?;
             into.extend_from_slice(b")")
         }
-        #[tactic(auto, using(crate::proofs::TermTexts::const_text))]
+        #[tactic(auto, using(crate::proofs::TermTexts::const_text, crate::proofs::Fronts::behind))]
         ArrayTerm::Const(sort, v) => {
             into.extend_from_slice(b"((as const ")?;
             write_sort(script, *sort, into)?;
@@ -179,7 +188,7 @@ pub fn write_array_with(
             write_term_with(script, marks, v.get(), into)?;
             into.extend_from_slice(b")")
         }
-        #[tactic(auto, using(crate::proofs::TermTexts::map_is_text))]
+        #[tactic(auto, using(crate::proofs::TermTexts::map_is_text, crate::proofs::Fronts::behind))]
         ArrayTerm::Map(op, arrays) => {
             into.extend_from_slice(b"((_ map ")?;
             write_map_op(script, *op, into)?;
@@ -192,13 +201,15 @@ pub fn write_array_with(
 
 /// Appends array terms, each behind a blank.
 #[cycle(write)]
+#[tactic(auto, using(crate::proofs::Fronts::behind))]
 fn write_more_arrays(
     script: &Script,
     marks: usize,
     arrays: &[ArrayTerm],
     into: &mut Vec<u8>,
 ) -> Result<(), AllocError>
-    ensures { OnOk result (into.new.items ≡ into.old.items ++ spaced_rest (map (array_text_with script.now marks) arrays.now)) }
+    ensures ok { OnOk result (into.new.items ≡ into.old.items ++ spaced_rest (map (array_text_with script.now marks) arrays.now)) }
+    ensures err { OnErr result (StartsWith into.new.items into.old.items) }
 {
     for a in arrays {
         into.extend_from_slice(b" ")?;

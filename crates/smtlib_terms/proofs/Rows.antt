@@ -19,15 +19,21 @@ use Rattle.mbqi_terms.specs.declared.term.Term.{Term}
 use Rattle.mbqi_terms.specs.declared.term.Term.TheVariants.{Num, Plus, Var, Apply, Read, Default}
 use Rattle.sexpr_text.specs.declared.tree.Sexpr.{Sexpr}
 use Rattle.sexpr_text.specs.declared.tree.Sexpr.TheVariants as tree
-use Rattle.smtlib_terms.specs.Declaring.{Declarations, formula_read, macro_defined}
+use Rattle.smtlib_terms.specs.declared.meaning.Meaning.TheVariants as meaning
+use Rattle.smtlib_terms.specs.declared.names.Macro.{Macro}
+use Rattle.smtlib_terms.specs.declared.names.MacroBody.TheVariants as body
+use Rattle.smtlib_terms.specs.Declaring.{Declarations, formula_read, macro_defined, with_definition}
 use Rattle.smtlib_terms.specs.Reading.{side, trees_in}
 use Rattle.smtlib_terms.specs.Words.{word_of, is_reserved, is_reserved_word}
 use Rattle.smtlib_terms.specs.Names.{sort_meant}
-use Rattle.smtlib_terms.specs.Meaning.{shifted_formula, shifted_term, depth_of_formula, depth_of_term, depth_of_array, varies, variables_in}
+use Rattle.smtlib_terms.specs.Meaning.{shifted_formula, shifted_term}
 use Rattle.sexpr_text.specs.declared.tree.Sexpr.TheBlock.{hidden-the_row-Sexpr-0}
 use Rattle.mbqi_terms.specs.declared.term.ArrayTerm.TheBlock.{hidden-the_row-Term-1}
 use denote.Hole.Carrier.{hidden}
 use Rattle.std.proofs.Common.{rules}
+use Rattle.mbqi_terms.specs.Depth.{depth_of_formula, depth_of_term, depth_of_array}
+use Rattle.mbqi_terms.specs.Varies.{varies}
+use Rattle.mbqi_terms.specs.Binders.{variables_in}
 
 abbrev l : List Sexpr → Sexpr
 l trees = tree.List trees
@@ -90,50 +96,42 @@ defined = record {
   macros = record {
     name = codes "g";
     parameters = record { name = codes "u"; sort = sort.Int } ∷ [];
-    result = sort.Truth;
-    body = l ((tree.Symbol (codes "=")) ∷ (l ((tree.Symbol (codes "-")) ∷ (tree.Symbol (codes "y")) ∷ (tree.Symbol (codes "u")) ∷ [])) ∷ (tree.Numeral (codes "3")) ∷ []);
+    body = body.Tree (l ((tree.Symbol (codes "=")) ∷ (l ((tree.Symbol (codes "-")) ∷ (tree.Symbol (codes "y")) ∷ (tree.Symbol (codes "u")) ∷ [])) ∷ (tree.Numeral (codes "3")) ∷ []));
   } ∷
       record {
         name = codes "m";
         parameters = record { name = codes "u"; sort = sort.Int } ∷ [];
-        result = sort.Truth;
-        body = l ((tree.Symbol (codes "forall")) ∷ (l ((l ((tree.Symbol (codes "v")) ∷ (tree.Symbol (codes "Int")) ∷ [])) ∷ [])) ∷ (l ((tree.Symbol (codes "=")) ∷ (tree.Symbol (codes "u")) ∷ (tree.Symbol (codes "v")) ∷ [])) ∷ []);
+        body = body.Tree (l ((tree.Symbol (codes "forall")) ∷ (l ((l ((tree.Symbol (codes "v")) ∷ (tree.Symbol (codes "Int")) ∷ [])) ∷ [])) ∷ (l ((tree.Symbol (codes "=")) ∷ (tree.Symbol (codes "u")) ∷ (tree.Symbol (codes "v")) ∷ [])) ∷ []));
       } ∷
       record {
         name = codes "e";
         parameters = record { name = codes "k"; sort = sort.Truth } ∷ [];
-        result = sort.Truth;
-        body = l ((tree.Symbol (codes "=")) ∷ (tree.Symbol (codes "k")) ∷ (tree.Symbol (codes "p")) ∷ []);
+        body = body.Tree (l ((tree.Symbol (codes "=")) ∷ (tree.Symbol (codes "k")) ∷ (tree.Symbol (codes "p")) ∷ []));
       } ∷
       record {
         name = codes "s";
         parameters = record { name = codes "i"; sort = sort.Int } ∷ [];
-        result = sort.Array plain.Int plain.Int;
-        body = l ((tree.Symbol (codes "store")) ∷ (tree.Symbol (codes "a")) ∷ (tree.Symbol (codes "i")) ∷ (tree.Numeral (codes "0")) ∷ []);
+        body = body.Tree (l ((tree.Symbol (codes "store")) ∷ (tree.Symbol (codes "a")) ∷ (tree.Symbol (codes "i")) ∷ (tree.Numeral (codes "0")) ∷ []));
       } ∷
       record {
         name = codes "two";
         parameters = [];
-        result = sort.Int;
-        body = tree.Numeral (codes "2");
+        body = body.Meaning (meaning.Term sort.Int (Num (pos 2)));
       } ∷
       record {
         name = codes "o";
         parameters = record { name = codes "u"; sort = sort.Int } ∷ [];
-        result = sort.Truth;
-        body = l ((tree.Symbol (codes "<=")) ∷ (tree.Symbol (codes "x")) ∷ (l ((tree.Symbol (codes "+")) ∷ (tree.Symbol (codes "u")) ∷ (tree.Numeral (codes "576460752303423488")) ∷ [])) ∷ []);
+        body = body.Tree (l ((tree.Symbol (codes "<=")) ∷ (tree.Symbol (codes "x")) ∷ (l ((tree.Symbol (codes "+")) ∷ (tree.Symbol (codes "u")) ∷ (tree.Numeral (codes "576460752303423488")) ∷ [])) ∷ []));
       } ∷
       record {
         name = codes "k";
         parameters = record { name = codes "x"; sort = sort.Int } ∷ [];
-        result = sort.Truth;
-        body = l ((tree.Symbol (codes "g")) ∷ (tree.Symbol (codes "x")) ∷ []);
+        body = body.Tree (l ((tree.Symbol (codes "g")) ∷ (tree.Symbol (codes "x")) ∷ []));
       } ∷
       record {
         name = codes "w";
         parameters = record { name = codes "u"; sort = sort.Truth } ∷ [];
-        result = sort.Truth;
-        body = l ((tree.Symbol (codes "=")) ∷ (tree.Symbol (codes "t")) ∷ (l ((tree.Symbol (codes "store")) ∷ (tree.Symbol (codes "t")) ∷ (tree.Numeral (codes "1")) ∷ (tree.Symbol (codes "u")) ∷ [])) ∷ []);
+        body = body.Tree (l ((tree.Symbol (codes "=")) ∷ (tree.Symbol (codes "t")) ∷ (l ((tree.Symbol (codes "store")) ∷ (tree.Symbol (codes "t")) ∷ (tree.Numeral (codes "1")) ∷ (tree.Symbol (codes "u")) ∷ [])) ∷ []));
       } ∷ [];
 }
 
@@ -661,3 +659,29 @@ row103 = search (rules, formulas.the_lemmas, terms.the_lemmas)
 row104 : macro_defined declared (l ((tree.Symbol (codes "define-fun")) ∷ (tree.Symbol (codes "g")) ∷ (l ((l ((tree.Symbol (codes "let")) ∷ (tree.Symbol (codes "Int")) ∷ [])) ∷ [])) ∷ (tree.Symbol (codes "Bool")) ∷ (tree.Symbol (codes "p")) ∷ [])) ≡ Err kind.ReservedName
 unfolding formula_read side trees_in word_of sort_meant is_reserved is_reserved_word shifted_formula shifted_term depth_of_formula depth_of_term depth_of_array varies variables_in hidden-the_row-Sexpr-0 hidden-the_row-Term-1 hidden
 row104 = search (rules, formulas.the_lemmas, terms.the_lemmas)
+
+-- macros without parameters: one with a quantifier, and one that applies it twice
+abbrev all_equal : Macro
+all_equal = record { name = codes "all"; parameters = []; body = body.Meaning (meaning.Formula (Forall (integer 0 ∷ []) (Equal (Var 0) x))) }
+
+abbrev both_equal : Macro
+both_equal = record {
+  name = codes "both";
+  parameters = [];
+  body = body.Meaning (meaning.Formula (All (Forall (integer 0 ∷ []) (Equal (Var 0) x) ∷ Forall (integer 1 ∷ []) (Equal (Var 1) x) ∷ [])));
+}
+
+-- (define-fun all () Bool (forall ((v Int)) (= v x)))
+row105 : macro_defined declared (l ((tree.Symbol (codes "define-fun")) ∷ (tree.Symbol (codes "all")) ∷ (l ([])) ∷ (tree.Symbol (codes "Bool")) ∷ (l ((tree.Symbol (codes "forall")) ∷ (l ((l ((tree.Symbol (codes "v")) ∷ (tree.Symbol (codes "Int")) ∷ [])) ∷ [])) ∷ (l ((tree.Symbol (codes "=")) ∷ (tree.Symbol (codes "v")) ∷ (tree.Symbol (codes "x")) ∷ [])) ∷ [])) ∷ [])) ≡ Ok (with_definition declared all_equal)
+unfolding formula_read side trees_in word_of sort_meant is_reserved is_reserved_word shifted_formula shifted_term depth_of_formula depth_of_term depth_of_array varies variables_in hidden-the_row-Sexpr-0 hidden-the_row-Term-1 hidden
+row105 = search (rules, formulas.the_lemmas, terms.the_lemmas)
+
+-- (define-fun both () Bool (and all all))
+row106 : macro_defined (with_definition declared all_equal) (l ((tree.Symbol (codes "define-fun")) ∷ (tree.Symbol (codes "both")) ∷ (l ([])) ∷ (tree.Symbol (codes "Bool")) ∷ (l ((tree.Symbol (codes "and")) ∷ (tree.Symbol (codes "all")) ∷ (tree.Symbol (codes "all")) ∷ [])) ∷ [])) ≡ Ok (with_definition (with_definition declared all_equal) both_equal)
+unfolding formula_read side trees_in word_of sort_meant is_reserved is_reserved_word shifted_formula shifted_term depth_of_formula depth_of_term depth_of_array varies variables_in hidden-the_row-Sexpr-0 hidden-the_row-Term-1 hidden
+row106 = search (rules, formulas.the_lemmas, terms.the_lemmas)
+
+-- (forall ((u Int)) both)
+row107 : formula_read (with_definition (with_definition declared all_equal) both_equal) (l ((tree.Symbol (codes "forall")) ∷ (l ((l ((tree.Symbol (codes "u")) ∷ (tree.Symbol (codes "Int")) ∷ [])) ∷ [])) ∷ (tree.Symbol (codes "both")) ∷ [])) ≡ Ok (Forall (integer 0 ∷ []) (All (Forall (integer 1 ∷ []) (Equal (Var 1) x) ∷ Forall (integer 2 ∷ []) (Equal (Var 2) x) ∷ [])))
+unfolding formula_read side trees_in word_of sort_meant is_reserved is_reserved_word shifted_formula shifted_term depth_of_formula depth_of_term depth_of_array varies variables_in hidden-the_row-Sexpr-0 hidden-the_row-Term-1 hidden
+row107 = search (rules, formulas.the_lemmas, terms.the_lemmas)

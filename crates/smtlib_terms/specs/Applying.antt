@@ -19,9 +19,10 @@ use Rattle.smtlib_terms.specs.declared.meaning.Meaning.{Meaning}
 use Rattle.smtlib_terms.specs.declared.meaning.Meaning.TheVariants as meaning
 use Rattle.smtlib_terms.specs.declared.names.Binding.{Binding}
 use Rattle.smtlib_terms.specs.Meaning.{shifted, sort_of}
-use Rattle.smtlib_terms.specs.Names.{◌>>=◌, Reader, Signature, bound_to, function_named, is_plain, is_sort, macro_named, plain_sort}
+use Rattle.smtlib_terms.specs.Names.{◌>>=◌, Reader, Signature, bound_to, function_named, macro_named}
 use Rattle.smtlib_terms.specs.Operators.{term_meant, unbound}
 use Rattle.smtlib_terms.specs.Words.{is_reserved_word, is_text}
+use Rattle.mbqi_terms.specs.Sort.{plain_sort, is_plain, is_sort}
 
 -- The sorts of the arguments are those of the places.
 abbrev pub have_sorts : List Sort → List Meaning → Bool
@@ -35,19 +36,22 @@ abbrev pub fitting : {A : Type 0} → List Sort → List Meaning → Result A Fa
 fitting sorts args result =
     if length args == length sorts then (if have_sorts sorts args then result else Err WrongSort) else Err WrongCount
 
--- The terms among the arguments: those of functions are all terms.
-abbrev pub terms_of : List Meaning → List Term
-terms_of [] = []
-terms_of (meaning.Term s t ∷ ms) = t ∷ terms_of ms
-terms_of (meaning.Formula f ∷ ms) = terms_of ms
-terms_of (meaning.Array i e a ∷ ms) = terms_of ms
+-- The arguments of a function as terms. No place takes a formula or an array.
+abbrev pub terms_of : List Meaning → Result (List Term) FaultKind
+terms_of [] = Ok []
+terms_of (meaning.Term s t ∷ ms) = terms_of ms >>= (λ ts. Ok (t ∷ ts))
+terms_of (meaning.Formula f ∷ ms) = Err WrongSort
+terms_of (meaning.Array i e a ∷ ms) = Err WrongSort
 
 -- An application of the function of a number, by the sort of its result.
-abbrev pub application : ℕ → List Meaning → Sort → Meaning
-application number args sort.Truth = term_meant plain.Truth (term.Apply (symbol.Declared number) (terms_of args))
-application number args sort.Int = term_meant plain.Int (term.Apply (symbol.Declared number) (terms_of args))
-application number args (sort.Elem s) = term_meant (plain.Elem s) (term.Apply (symbol.Declared number) (terms_of args))
+abbrev pub application : ℕ → List Term → Sort → Meaning
+application number args sort.Truth = term_meant plain.Truth (term.Apply (symbol.Declared number) args)
+application number args sort.Int = term_meant plain.Int (term.Apply (symbol.Declared number) args)
+application number args (sort.Elem s) = term_meant (plain.Elem s) (term.Apply (symbol.Declared number) args)
 application number args (sort.Array i e) = meaning.Array i e (array.Name number)
+
+abbrev pub application_of : ℕ → Sort → List Meaning → Result Meaning FaultKind
+application_of number result args = terms_of args >>= (λ ts. Ok (application number ts result))
 
 -- What a name in scope means where `next` is the next place of a variable.
 abbrev pub meaning_in_scope : ℕ → Bound → Meaning
@@ -60,7 +64,7 @@ alone (arg ∷ args) m = Err WrongCount
 
 abbrev pub function_applied : List Meaning → Option (ℕ × Function) → Result Meaning FaultKind
 function_applied args None = Err UnknownName
-function_applied args (Some f) = fitting f.1.args args (Ok (application f.0 args f.1.result))
+function_applied args (Some f) = fitting f.1.args args (application_of f.0 f.1.result args)
 
 abbrev pub declared_applied : Signature → List ℕ → ℕ → List Meaning → Option Reader → Result Meaning FaultKind
 declared_applied names name next args (Some m) = fitting m.parameters args (m.reads args next)

@@ -8,3 +8,4 @@ pub mod Reading
 pub mod Declaring
 pub mod Answers
 pub mod Steps
+pub mod InForm

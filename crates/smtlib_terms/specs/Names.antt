@@ -1,5 +1,6 @@
-use Rattle.std.specs.Prelude.{ℕ, ◌+◌, Bool, true, false, ◌&&◌, ◌==◌, List, [], ◌∷◌, codes, Option, None, Some, Result, Ok, Err, if◌then◌else◌}
+use Rattle.std.specs.Prelude.{ℕ, ◌+◌, Bool, false, List, [], ◌∷◌, codes, Option, None, Some, Result, Ok, Err, if◌then◌else◌}
 use Rattle.std.specs.List.{position}
+use Rattle.std.specs.Option.{option_map_or}
 use Rattle.mbqi_values.specs.declared.fault.FaultKind.{FaultKind}
 use Rattle.mbqi_values.specs.declared.fault.FaultKind.TheVariants.{BadForm, Unsupported, UnknownName}
 use Rattle.mbqi_terms.specs.declared.script.Function.{Function}
@@ -9,6 +10,7 @@ use Rattle.mbqi_terms.specs.declared.sort.Sort.{Sort}
 use Rattle.mbqi_terms.specs.declared.sort.Sort.TheVariants as sort
 use Rattle.sexpr_text.specs.declared.tree.Sexpr.{Sexpr, Row_of-Sexpr, end_of-Sexpr, more_of-Sexpr}
 use Rattle.sexpr_text.specs.declared.tree.Sexpr.TheVariants as tree
+use Rattle.sexpr_text.specs.Trees.{symbol_in}
 use Rattle.smtlib_terms.specs.declared.meaning.Bound.{Bound}
 use Rattle.smtlib_terms.specs.declared.meaning.Meaning.{Meaning}
 use Rattle.smtlib_terms.specs.declared.names.Binding.{Binding}
@@ -50,32 +52,6 @@ abbrev pub bound_to : List ℕ → List Binding → Option Bound
 bound_to name [] = None
 bound_to name (b ∷ bs) = if is_text name b.name then Some b.bound else bound_to name bs
 
--- The sort of an array's index or element.
-abbrev pub plain_sort : Plain → Sort
-plain_sort plain.Truth = sort.Truth
-plain_sort plain.Int = sort.Int
-plain_sort (plain.Elem s) = sort.Elem s
-
-abbrev pub is_plain : Plain → Plain → Bool
-is_plain plain.Truth plain.Truth = true
-is_plain plain.Int plain.Int = true
-is_plain (plain.Elem s) (plain.Elem t) = s == t
-is_plain p q = false
-
--- Whether two sorts are one.
-abbrev pub is_sort : Sort → Sort → Bool
-is_sort sort.Truth sort.Truth = true
-is_sort sort.Int sort.Int = true
-is_sort (sort.Elem s) (sort.Elem t) = s == t
-is_sort (sort.Array i e) (sort.Array j f) = is_plain i j && is_plain e f
-is_sort s t = false
-
-abbrev pub is_array : Sort → Bool
-is_array (sort.Array i e) = true
-is_array sort.Truth = false
-is_array sort.Int = false
-is_array (sort.Elem s) = false
-
 -- The sort of arrays (SMT-LIB 2.6, theory ArraysEx). Arrays over Bool, and arrays of arrays, are left out.
 abbrev pub array_of_plain : Plain → Sort → Result Sort FaultKind
 array_of_plain i sort.Truth = Ok (sort.Array i plain.Truth)
@@ -100,8 +76,7 @@ sort_named sorts name =
     else found_sort (place_of name sorts))
 
 abbrev pub is_symbol : List ℕ → Sexpr → Bool
-is_symbol name (tree.Symbol text) = is_text text name
-is_symbol name other = false
+is_symbol name t = option_map_or (λ text. is_text text name) (symbol_in t) false
 
 -- The sort that a tree names (SMT-LIB 2.6, section 3.5).
 unfoldable mutual

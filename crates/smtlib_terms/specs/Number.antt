@@ -1,10 +1,13 @@
-use Rattle.std.specs.Prelude.{ℕ, zero, suc, ◌-◌, ◌^◌, ℤ, pos, negsuc, neg_ℤ, ◌+ℤ◌, ◌-ℤ◌, Bool, nat_le, nat_lt, List, [], ◌∷◌, Option, None, Some, Result, Ok, Err, if◌then◌else◌}
+use Rattle.std.specs.Prelude.{ℕ, zero, suc, ◌-◌, ◌^◌, ℤ, pos, negsuc, neg_ℤ, ◌+ℤ◌, ◌-ℤ◌, List, [], ◌∷◌, Option, None, Some, Result, Ok, Err, if◌then◌else◌}
 use Rattle.std.specs.List.{fold, flat_map}
 use Rattle.std.specs.Option.{option_to_list}
 use Rattle.mbqi_values.specs.declared.fault.FaultKind.{FaultKind}
 use Rattle.mbqi_values.specs.declared.fault.FaultKind.TheVariants.{NotDifference, OffsetTooWide}
 use Rattle.mbqi_terms.specs.declared.term.Term.{Term, more_of-Term, end_of-Term}
 use Rattle.mbqi_terms.specs.declared.term.Term.TheVariants as term
+use Rattle.mbqi_terms.specs.Limits.{is_within}
+use Rattle.mbqi_terms.specs.Depth.{depth_of_term}
+use Rattle.smtlib_terms.specs.Meaning.{unless_deep}
 
 -- An integer term of the profile: at most one term that is neither a numeral nor a sum, and a whole number.
 pub record Sum : Type 0 where
@@ -27,11 +30,6 @@ abbrev pub term_of : Option Term → ℤ → Term
 term_of None n = term.Num n
 term_of (Some t) n = plus_number t n
 
--- The number is absolutely at most the limit.
-abbrev pub is_within : ℕ → ℤ → Bool
-is_within limit (pos n) = nat_le n limit
-is_within limit (negsuc n) = nat_lt n limit
-
 -- The limits of the profile (this project's own): of a numeral, and of the number beside another term.
 abbrev pub limit_of : Option Term → ℕ
 limit_of None = 2 ^ 63 - 1
@@ -39,7 +37,8 @@ limit_of (Some t) = 2 ^ 59
 
 -- The term of a sum whose number is within its limit.
 abbrev pub summed : Option Term → ℤ → Result Term FaultKind
-summed base n = if is_within (limit_of base) n then Ok (term_of base n) else Err OffsetTooWide
+summed base n =
+    if is_within (limit_of base) n then Ok (term_of base n) else Err (unless_deep OffsetTooWide (depth_of_term (term_of base n)))
 
 abbrev pub bases_of : List Sum → List Term
 bases_of sums = flat_map (λ (s : Sum). option_to_list s.base) sums

@@ -1,7 +1,7 @@
-use Rattle.std.specs.Prelude.{ℕ, ◌+ℤ◌, ℤ, Bool, true, false, not, ◌&&◌, ◌==◌, nat_le, List, [], ◌∷◌, ◌++◌, length, map, Result, Ok, Err, if◌then◌else◌}
+use Rattle.std.specs.Prelude.{ℕ, ◌-◌, ◌^◌, ◌+ℤ◌, ℤ, Bool, true, false, not, ◌&&◌, ◌==◌, nat_le, List, [], ◌∷◌, ◌++◌, length, map, Result, Ok, Err, if◌then◌else◌}
 use Rattle.std.specs.List.{list_all, list_any}
 use Rattle.mbqi_values.specs.declared.fault.FaultKind.{FaultKind}
-use Rattle.mbqi_values.specs.declared.fault.FaultKind.TheVariants.{Unsupported, UnknownName, WrongCount, WrongSort, NotDifference, QuantifierPlace, BoundArray}
+use Rattle.mbqi_values.specs.declared.fault.FaultKind.TheVariants.{Unsupported, UnknownName, WrongCount, WrongSort, OffsetTooWide, NotDifference, QuantifierPlace, BoundArray}
 use Rattle.mbqi_terms.specs.declared.formula.Formula.{Formula}
 use Rattle.mbqi_terms.specs.declared.formula.Formula.TheVariants as formula
 use Rattle.mbqi_terms.specs.declared.sort.Plain.{Plain}
@@ -18,9 +18,14 @@ use Rattle.smtlib_terms.specs.declared.meaning.Side.{Side}
 use Rattle.smtlib_terms.specs.declared.meaning.Side.TheVariants.{Meant, Difference}
 use Rattle.smtlib_terms.specs.declared.word.Word.{Word}
 use Rattle.smtlib_terms.specs.declared.word.Word.TheVariants as word
-use Rattle.smtlib_terms.specs.Meaning.{is_quantified, sort_of, varies}
-use Rattle.smtlib_terms.specs.Names.{◌>>=◌, is_sort, plain_sort}
-use Rattle.smtlib_terms.specs.Number.{difference, negation, sum_of, sum_of_terms, summed}
+use Rattle.smtlib_terms.specs.Meaning.{sort_of, depth_of, unless_deep}
+use Rattle.smtlib_terms.specs.Names.{◌>>=◌}
+use Rattle.smtlib_terms.specs.Number.{difference, negation, sum_of, sum_of_terms, term_of}
+use Rattle.mbqi_terms.specs.Binders.{is_quantified}
+use Rattle.mbqi_terms.specs.Varies.{varies}
+use Rattle.mbqi_terms.specs.Sort.{plain_sort, is_sort}
+use Rattle.mbqi_terms.specs.Depth.{depth_of_array, depth_of_formula}
+use Rattle.mbqi_terms.specs.Limits.{is_within}
 
 -- At least, or exactly, so many arguments.
 abbrev pub at_least : {A B : Type 0} → ℕ → List A → Result B FaultKind → Result B FaultKind
@@ -53,9 +58,9 @@ formula_meant r = r >>= (λ f. Ok (meaning.Formula f))
 abbrev pub integer_meant : Result Term FaultKind → Result Meaning FaultKind
 integer_meant r = r >>= (λ t. Ok (meaning.Term sort.Int t))
 
--- No quantifier stands in the formulas.
-abbrev pub unquantified : {A : Type 0} → List Formula → Result A FaultKind → Result A FaultKind
-unquantified fs result = if list_any is_quantified fs then Err QuantifierPlace else result
+-- What is made of formulas, in some of which no quantifier may stand.
+abbrev pub unquantified : List Formula → Formula → Result Formula FaultKind
+unquantified fs made = if list_any is_quantified fs then Err (unless_deep QuantifierPlace (depth_of_formula made)) else Ok made
 
 -- `and` and `or` of one formula is itself (SMT-LIB 2.6, theory Core).
 abbrev pub joined : (List Formula → Formula) → List Formula → Formula
@@ -93,7 +98,7 @@ unlike f [] = f
 unlike f (g ∷ gs) = unlike (formula.Not (formula.Iff f g)) gs
 
 abbrev pub exclusion_of : List Formula → Result Formula FaultKind
-exclusion_of (f ∷ fs) = unquantified (f ∷ fs) (Ok (unlike f fs))
+exclusion_of (f ∷ fs) = unquantified (f ∷ fs) (unlike f fs)
 exclusion_of [] = Err WrongCount
 
 abbrev pub exclusion : List Meaning → Result Formula FaultKind
@@ -136,11 +141,12 @@ is_quantified_meaning (meaning.Term s t) = false
 is_quantified_meaning (meaning.Array i e a) = false
 
 -- `=` is chainable and `distinct` is pairwise (SMT-LIB 2.6, theory Core).
+abbrev pub compared : List Meaning → Formula → Result Formula FaultKind
+compared args made =
+    if list_any is_quantified_meaning args then Err (unless_deep QuantifierPlace (depth_of_formula made)) else Ok made
+
 abbrev pub compared_by : (List Meaning → List Formula) → List Meaning → Result Formula FaultKind
-compared_by relation args =
-    if have_one_sort args then
-    (if list_any is_quantified_meaning args then Err QuantifierPlace else Ok (all_of (relation args)))
-    else Err WrongSort
+compared_by relation args = if have_one_sort args then compared args (all_of (relation args)) else Err WrongSort
 
 -- `<=`, `<`, `>=` and `>` are chainable (SMT-LIB 2.6, theory Ints).
 abbrev pub ordered_by : (Term → Term → Formula) → List Meaning → Result Formula FaultKind
@@ -163,7 +169,7 @@ is_relation other = false
 
 -- `ite` of formulas (SMT-LIB 2.6, theory Core). Of another sort it is left out for now.
 abbrev pub choice_of : List Formula → Result Formula FaultKind
-choice_of (c ∷ f ∷ g ∷ []) = unquantified (c ∷ []) (Ok (formula.Choose c f g))
+choice_of (c ∷ f ∷ g ∷ []) = unquantified (c ∷ []) (formula.Choose c f g)
 choice_of fs = Err WrongCount
 
 abbrev pub is_other_choice : Sort → Sort → Bool
@@ -194,7 +200,7 @@ as_plain e other = Err WrongSort
 
 -- No variable of a quantifier stands in an array term.
 abbrev pub unbound : Plain → Plain → ArrayTerm → Result Meaning FaultKind
-unbound i e a = if varies a then Err BoundArray else Ok (meaning.Array i e a)
+unbound i e a = if varies a then Err (unless_deep BoundArray (depth_of_array a)) else Ok (meaning.Array i e a)
 
 -- `select` and `store` (SMT-LIB 2.6, theory ArraysEx).
 abbrev pub read_at : Meaning → Meaning → Result Meaning FaultKind
@@ -215,8 +221,11 @@ storing (a ∷ i ∷ v ∷ []) = stored_at a i v
 storing args = Err WrongCount
 
 -- `default` of an array over Int (this project's own).
+abbrev pub default_meant : ArrayTerm → Meaning → Result Meaning FaultKind
+default_meant a m = if varies a then Err (unless_deep BoundArray (depth_of m)) else Ok m
+
 abbrev pub default_of : Meaning → Result Meaning FaultKind
-default_of (meaning.Array plain.Int e a) = if varies a then Err BoundArray else Ok (term_meant e (term.Default a))
+default_of (meaning.Array plain.Int e a) = default_meant a (term_meant e (term.Default a))
 default_of (meaning.Array i e a) = Err Unsupported
 default_of other = Err WrongSort
 
@@ -259,13 +268,13 @@ abbrev pub plainly : Side → Result Meaning FaultKind
 plainly (Meant m) = Ok m
 plainly (Difference s t) = Err NotDifference
 
--- The term moved by the number of a numeral.
-abbrev pub moved_by : Term → ℤ → Result Meaning FaultKind
-moved_by t n = integer_meant (summed (sum_of t).base ((sum_of t).number +ℤ n))
+-- The term moved by the number of a numeral, also past the limit, which is judged at the atom.
+abbrev pub moved_by : Term → ℤ → Meaning
+moved_by t n = meaning.Term sort.Int (term_of (sum_of t).base ((sum_of t).number +ℤ n))
 
 -- `s - t` beside the numeral n stands for s beside t + n (this project's own).
 abbrev pub beside : Meaning → Term → Term → (Meaning → Meaning → List Meaning) → Result (List Meaning) FaultKind
-beside (meaning.Term sort.Int (term.Num n)) s t order = moved_by t n >>= (λ moved. Ok (order (meaning.Term sort.Int s) moved))
+beside (meaning.Term sort.Int (term.Num n)) s t order = Ok (order (meaning.Term sort.Int s) (moved_by t n))
 beside other s t order = Err NotDifference
 
 abbrev pub two : Meaning → Meaning → List Meaning
@@ -284,6 +293,24 @@ two_sides (Difference s t) (Ok (Meant n)) = beside n s t two
 two_sides (Difference s t) (Ok (Difference u v)) = Err NotDifference
 two_sides (Difference s t) (Err kind) = Err NotDifference
 
+-- An integer whose number is past its limit. Each argument was judged where it stands, so that this is a term which a
+-- difference beside it moved.
+abbrev pub is_wide_term : Term → Bool
+is_wide_term (term.Num n) = not (is_within (2 ^ 63 - 1) n)
+is_wide_term (term.Plus' u row n) = not (is_within (2 ^ 59) n)
+is_wide_term t = false
+
+abbrev pub is_wide : Meaning → Bool
+is_wide (meaning.Term sort.Int t) = is_wide_term t
+is_wide other = false
+
+-- What a relation makes of its arguments, of which none may have a number past its limit.
+abbrev pub narrow : List Meaning → Meaning → Result Meaning FaultKind
+narrow args m = if list_any is_wide args then Err (unless_deep OffsetTooWide (depth_of m)) else Ok m
+
+abbrev pub relation_meant : List Meaning → Result Formula FaultKind → Result Meaning FaultKind
+relation_meant args r = formula_meant r >>= narrow args
+
 -- What a word makes of its arguments (SMT-LIB 2.6, theories Core, Ints and ArraysEx).
 abbrev pub applied : Word → List Meaning → Result Meaning FaultKind
 applied word.Not args = formula_meant (negated args)
@@ -291,13 +318,13 @@ applied word.And args = formula_meant (connective formula.All args)
 applied word.Or args = formula_meant (connective formula.Any args)
 applied word.Implies args = formula_meant (implication args)
 applied word.Xor args = formula_meant (exclusion args)
-applied word.Equal args = formula_meant (at_least 2 args (compared_by (chain equality) args))
-applied word.Distinct args = formula_meant (at_least 2 args (compared_by (pairs inequality) args))
+applied word.Equal args = relation_meant args (at_least 2 args (compared_by (chain equality) args))
+applied word.Distinct args = relation_meant args (at_least 2 args (compared_by (pairs inequality) args))
 applied word.Choose args = formula_meant (choice args)
-applied word.AtMost args = formula_meant (at_least 2 args (ordered_by at_most args))
-applied word.Below args = formula_meant (at_least 2 args (ordered_by below args))
-applied word.AtLeast args = formula_meant (at_least 2 args (ordered_by (λ s t. at_most t s) args))
-applied word.Above args = formula_meant (at_least 2 args (ordered_by (λ s t. below t s) args))
+applied word.AtMost args = relation_meant args (at_least 2 args (ordered_by at_most args))
+applied word.Below args = relation_meant args (at_least 2 args (ordered_by below args))
+applied word.AtLeast args = relation_meant args (at_least 2 args (ordered_by (λ s t. at_most t s) args))
+applied word.Above args = relation_meant args (at_least 2 args (ordered_by (λ s t. below t s) args))
 applied word.Plus args = addition args
 applied word.Select args = selection args
 applied word.Store args = storing args

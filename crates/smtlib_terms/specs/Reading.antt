@@ -1,4 +1,4 @@
-use Rattle.std.specs.Prelude.{ℕ, ◌+◌, ◌^◌, ◌==◌, Bool, true, false, ◌&&◌, pos, nat_lt, List, [], ◌∷◌, ◌++◌, length, map, codes, Result, Ok, Err, if◌then◌else◌}
+use Rattle.std.specs.Prelude.{ℕ, ◌+◌, ◌^◌, ◌==◌, Bool, true, false, ◌&&◌, pos, nat_lt, List, [], ◌∷◌, ◌++◌, length, map, codes, Result, Ok, Err, is_some, unwrap_or, if◌then◌else◌}
 use Rattle.std.specs.List.{list_all}
 use Rattle.std.specs.Str.Parse.{digits_value}
 use Rattle.mbqi_values.specs.declared.fault.FaultKind.{FaultKind}
@@ -10,6 +10,7 @@ use Rattle.mbqi_terms.specs.declared.sort.Sort.TheVariants as sort
 use Rattle.mbqi_terms.specs.declared.term.Term.TheVariants as term
 use Rattle.sexpr_text.specs.declared.tree.Sexpr.{Sexpr, Row_of-Sexpr, end_of-Sexpr, more_of-Sexpr}
 use Rattle.sexpr_text.specs.declared.tree.Sexpr.TheVariants as tree
+use Rattle.sexpr_text.specs.Trees.{list_in, symbol_in}
 use Rattle.smtlib_terms.specs.declared.meaning.Bound.TheVariants as Bound
 use Rattle.smtlib_terms.specs.declared.meaning.Meaning.{Meaning}
 use Rattle.smtlib_terms.specs.declared.meaning.Meaning.TheVariants as meaning
@@ -39,25 +40,17 @@ symbol names scope text next =
     else name_applied names scope text next [])
 
 -- The trees in a list, in order.
-abbrev pub trees_of : {n : _} → Row_of-Sexpr n → List Sexpr
-trees_of end_of-Sexpr = []
-trees_of (more_of-Sexpr t row) = t ∷ trees_of row
-
 unfoldable pub trees_in : Sexpr → List Sexpr
-trees_in (tree.List' n row) = trees_of row
-trees_in other = []
+trees_in t = unwrap_or (list_in t) []
 
 abbrev pub is_list : Sexpr → Bool
-is_list (tree.List' n row) = true
-is_list other = false
+is_list t = is_some (list_in t)
 
 abbrev pub is_some_symbol : Sexpr → Bool
-is_some_symbol (tree.Symbol text) = true
-is_some_symbol other = false
+is_some_symbol t = is_some (symbol_in t)
 
 abbrev pub text_of : Sexpr → List ℕ
-text_of (tree.Symbol text) = text
-text_of other = []
+text_of t = unwrap_or (symbol_in t) []
 
 -- The head of a list that is a term: a symbol, `(as const S)` or `(_ map f)`.
 pub data Head : Type 0 where

@@ -96,9 +96,9 @@ general_words =
     ∷ codes "STRING"
     ∷ []
 
--- The words of commands, also of those that this profile leaves out (SMT-LIB 2.6, section 3.9).
-abbrev pub command_words : List (List ℕ)
-command_words =
+-- The words of commands that are passed over, whatever stands behind them (SMT-LIB 2.6, section 3.9).
+abbrev pub passed_over_words : List (List ℕ)
+passed_over_words =
     codes "set-logic"
     ∷ codes "set-info"
     ∷ codes "set-option"
@@ -106,7 +106,12 @@ command_words =
     ∷ codes "get-info"
     ∷ codes "get-unsat-core"
     ∷ codes "echo"
-    ∷ codes "declare-sort"
+    ∷ []
+
+-- The words of the other commands, also of those that this profile leaves out (SMT-LIB 2.6, section 3.9).
+abbrev pub command_words : List (List ℕ)
+command_words =
+    codes "declare-sort"
     ∷ codes "declare-const"
     ∷ codes "declare-fun"
     ∷ codes "define-fun"
@@ -155,7 +160,9 @@ theory_words =
     ∷ []
 
 unfoldable pub is_reserved_word : List ℕ → Bool
-is_reserved_word name = is_one_of general_words name || (is_one_of command_words name || is_one_of theory_words name)
+is_reserved_word name =
+    is_one_of general_words name
+    || (is_one_of passed_over_words name || (is_one_of command_words name || is_one_of theory_words name))
 
 -- Whether nobody may declare, define or bind the name: a reserved word, or one that begins with `@` or `.`,
 -- since such names belong to solvers.

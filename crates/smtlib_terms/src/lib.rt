@@ -11,4 +11,5 @@ pub mod names;
 mod refusal;
 pub mod word;
 
-pub use refusal::refused;
+pub use meaning::DEPTH_LIMIT;
+pub use refusal::{refused, refused_unless_deep};

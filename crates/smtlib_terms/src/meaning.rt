@@ -2,6 +2,10 @@
 
 use mbqi_terms::{ArrayTerm, Formula, Plain, Sort, Term};
 
+/// How deep what a tree means may be: a node is one deeper than the deepest of its parts, and an atom as deep as its term
+/// (this project's own limit).
+pub const DEPTH_LIMIT: usize = 1000;
+
 /// What a tree of the profile means.
 #[derive(Drop)]
 pub enum Meaning {

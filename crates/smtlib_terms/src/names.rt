@@ -1,6 +1,6 @@
 //! Names that stand for something, as the definitions speak of them.
 
-use crate::meaning::Bound;
+use crate::meaning::{Bound, Meaning};
 use mbqi_terms::{Binder, Sort};
 use mbqi_values::{Sequence, Text};
 use sexpr_text::Sexpr;
@@ -15,13 +15,30 @@ pub struct Parameter {
 /// The parameters of a macro, in order.
 pub type Parameters = Sequence<Parameter>;
 
-/// A defined function: its name, its parameters, the sort of its result, and its body.
+/// The definition of a function as it is written: its name, its parameters, the sort of its result, and its body.
 #[derive(Drop)]
-pub struct Macro {
+pub struct Definition {
     pub name: Text,
     pub parameters: Parameters,
     pub result: Sort,
     pub body: Sexpr,
+}
+
+/// What is kept of the body of a defined function.
+#[derive(Drop)]
+pub enum MacroBody {
+    /// What the body meant at its definition, its variables counted from 0: where there are no parameters.
+    Meaning(Meaning),
+    /// The tree, which each application reads anew: where there are parameters.
+    Tree(Sexpr),
+}
+
+/// A defined function: its name, its parameters, and its body.
+#[derive(Drop)]
+pub struct Macro {
+    pub name: Text,
+    pub parameters: Parameters,
+    pub body: MacroBody,
 }
 
 /// A name in scope, with what it stands for.

@@ -1,6 +1,6 @@
 ghost use Rattle.std.specs.Prelude.{◌≡◌};
 ghost use Rattle.std.specs.List.{list_any};
-ghost use Rattle.smtlib_terms.specs.Words.{arithmetic_words, binder_words, command_words, connective_words, general_words, is_one_of, is_text, is_reserved, is_reserved_word, operation_words, relation_words, theory_words, word_among, word_of};
+ghost use Rattle.smtlib_terms.specs.Words.{arithmetic_words, binder_words, command_words, connective_words, general_words, is_one_of, is_text, is_reserved, is_reserved_word, operation_words, passed_over_words, relation_words, theory_words, word_among, word_of};
 
 /// A word at the head of a list, by what it does to what stands behind it.
 #[derive(Clone, Copy, Debug, PartialEq, Eq)]
@@ -177,9 +177,9 @@ fn is_general_word(text: &[u8]) -> bool
     )
 }
 
-/// Whether the text is the word of a command, also of one that this profile leaves out.
-fn is_command_word(text: &[u8]) -> bool
-    ensures { result ≡ is_one_of command_words text.now }
+/// Whether the text is the word of a command that is passed over: it changes no script, whatever stands behind it.
+pub fn is_passed_over(text: &[u8]) -> bool
+    ensures { result ≡ is_one_of passed_over_words text.now }
 {
     is_among(
         &[
@@ -190,6 +190,17 @@ fn is_command_word(text: &[u8]) -> bool
             "get-info",
             "get-unsat-core",
             "echo",
+        ],
+        text,
+    )
+}
+
+/// Whether the text is the word of another command, also of one that this profile leaves out.
+fn is_command_word(text: &[u8]) -> bool
+    ensures { result ≡ is_one_of command_words text.now }
+{
+    is_among(
+        &[
             "declare-sort",
             "declare-const",
             "declare-fun",
@@ -229,7 +240,7 @@ fn is_theory_word(text: &[u8]) -> bool
 pub fn is_reserved_word(text: &[u8]) -> bool
     ensures { result ≡ is_reserved_word text.now }
 {
-    is_general_word(text) || is_command_word(text) || is_theory_word(text)
+    is_general_word(text) || is_passed_over(text) || is_command_word(text) || is_theory_word(text)
 }
 
 /// Whether nobody may declare, define or bind the name: a reserved word, or one that begins with `@` or `.`,

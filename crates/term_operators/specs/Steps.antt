@@ -1,5 +1,5 @@
 -- What an operator hands from one of its functions to the next. No public clause cites it.
-use Rattle.std.specs.Prelude.{ℤ, List, Option, None, Some, Result, Err}
+use Rattle.std.specs.Prelude.{ℤ, List, Option, None, Some, Result, Ok, Err}
 use Rattle.mbqi_values.specs.declared.fault.FaultKind.{FaultKind}
 use Rattle.mbqi_values.specs.declared.fault.FaultKind.TheVariants.{UnknownName, NotDifference}
 use Rattle.mbqi_terms.specs.declared.formula.Formula.{Formula}
@@ -37,7 +37,7 @@ numeral_of other = None
 -- A term moved by the number of a numeral that stands beside it.
 abbrev pub moved_by_number : Term → Option ℤ → Result Meaning FaultKind
 moved_by_number t None = Err NotDifference
-moved_by_number t (Some n) = moved_by t n
+moved_by_number t (Some n) = Ok (moved_by t n)
 
 abbrev pub moved_beside : Meaning → Term → Result Meaning FaultKind
 moved_beside other t = moved_by_number t (numeral_of other)

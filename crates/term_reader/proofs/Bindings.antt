@@ -2,7 +2,8 @@
 use Rattle.std.proofs.Common.{◌≡◌, List, ◌∷◌, map, refl, ap}
 use Rattle.sexpr_text.specs.declared.tree.Sexpr.{Sexpr, Row_of-Sexpr, end_of-Sexpr, more_of-Sexpr}
 use Rattle.sexpr_text.specs.declared.tree.Sexpr.TheVariants as tree
-use Rattle.smtlib_terms.specs.Reading.{Reading, inner, inner_of, readings, readings_of, side, trees_in, trees_of}
+use Rattle.sexpr_text.specs.Trees.{trees_of}
+use Rattle.smtlib_terms.specs.Reading.{Reading, inner, inner_of, readings, readings_of, side, trees_in}
 
 -- the trees in a binding or in a list of bindings
 inner_row : {n : _} (row : Row_of-Sexpr n) → inner_of row ≡ map readings (trees_of row)

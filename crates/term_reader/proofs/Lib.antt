@@ -1,6 +1,5 @@
 mod ArgumentsRead
 mod Bindings
-mod Definitions
 mod Ends
 mod Numerals
 mod PlanLaws

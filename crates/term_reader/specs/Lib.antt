@@ -1,3 +1,2 @@
-pub mod Defining
 pub mod Plans
 pub mod Scopes

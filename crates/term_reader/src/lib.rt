@@ -14,4 +14,4 @@ mod plan;
 mod reading;
 mod scope;
 
-pub use defining::{check_definition, define_macro, read_formula};
+pub use defining::{check_definition, define_macro, read_closed_term, read_formula};

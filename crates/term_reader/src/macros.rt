@@ -1,16 +1,21 @@
-//! The arguments of macros.
+//! The arguments and the bodies of macros.
 
 ghost use Rattle.std.specs.Prelude.{◌≡◌, ◌+◌, IfOk};
-ghost use Rattle.smtlib_terms.specs.Declaring.{arguments, opaque_from, sorts_of};
-ghost use Rattle.operator_arguments.specs.Measured.{meanings_of};
+ghost use Rattle.smtlib_terms.specs.Declaring.{arguments, kept_body, macro_of, opaque_from, sorts_of};
+ghost use Rattle.smtlib_terms.specs.Meaning.{shifted};
+ghost use Rattle.operator_arguments.specs.Measured.{meaning_of, meanings_of};
 ghost use Rattle.term_reader.specs.Scopes.{bindings_of};
 
 use crate::scope::{Binding, Bindings, Bound};
 use array_operators::application;
 use mbqi_terms::{Sorts, copy_text};
 use mbqi_values::Sequence;
-use operator_arguments::{Meanings, Queue};
-use smtlib_terms::names::Parameter;
+use measured_terms::MeasuredTerms;
+use moved_terms::{Shift, measured_array, measured_term, moved_formula};
+use operator_arguments::{Meanings, MeasuredMeaning, Queue};
+use sexpr_text::Sexpr;
+use smtlib_terms::meaning::Meaning;
+use smtlib_terms::names::{Definition, Macro, MacroBody, Parameter};
 use std::alloc::{AllocError, Global};
 
 /// The sorts of parameters.
@@ -68,9 +73,59 @@ pub fn opaque_from(
     let mut args = Sequence::new(alloc);
     let mut number = first;
     for parameter in parameters {
-        args.push(application(alloc, number, Sequence::new(alloc), parameter.sort)?)?;
+        args.push(application(number, MeasuredTerms::new(alloc), parameter.sort)?)?;
         let following = number_behind(number)?;
         number = following;
     }
     Ok(args)
+}
+
+/// What is kept of the body of a macro that means this: its meaning, unless there are parameters.
+fn kept_body(parameters: &[Parameter], tree: Sexpr, meaning: MeasuredMeaning) -> MacroBody
+    ensures { result ≡ kept_body parameters.now tree (meaning_of meaning) }
+{
+    match parameters {
+        [] => MacroBody::Meaning(meaning.into_plain()),
+        [_, ..] => MacroBody::Tree(tree),
+    }
+}
+
+/// The macro of a definition whose body means this.
+pub fn macro_of(definition: Definition, meaning: MeasuredMeaning) -> Macro
+    ensures { result ≡ macro_of definition (meaning_of meaning) }
+{
+    let Definition {
+        name,
+        parameters,
+        body,
+        ..
+    } = definition;
+    let body = kept_body(parameters.as_slice(), body, meaning);
+    Macro {
+        name,
+        parameters,
+        body,
+    }
+}
+
+/// What the body of a macro without parameters means where `next` is the next place of a variable.
+pub fn meaning_at(
+    alloc: Global,
+    next: usize,
+    meaning: &Meaning,
+) -> Result<MeasuredMeaning, AllocError>
+    ensures { IfOk result (λ m. meaning_of m ≡ shifted 0 next meaning.now) }
+{
+    match meaning {
+        Meaning::Formula(f) => {
+            let shift = Shift { from: 0, by: next };
+            Ok(MeasuredMeaning::Formula(moved_formula(alloc, shift, f)?))
+        }
+        Meaning::Term(sort, t) => Ok(MeasuredMeaning::Term(*sort, measured_term(alloc, t)?)),
+        Meaning::Array(index, element, a) => Ok(MeasuredMeaning::Array(
+            *index,
+            *element,
+            measured_array(alloc, a)?,
+        )),
+    }
 }

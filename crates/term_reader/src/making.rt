@@ -22,8 +22,8 @@ use measured_terms::MeasuredFormula;
 use operator_arguments::{Meanings, MeasuredMeaning, MeasuredSide};
 use smtlib_names::names::Names;
 use smtlib_terms::names::Variable;
-use smtlib_terms::refused;
 use smtlib_terms::word::{Word, is_reserved_word};
+use smtlib_terms::{DEPTH_LIMIT, refused};
 use std::alloc::{AllocError, Global};
 use term_operators::applied;
 
@@ -157,7 +157,7 @@ pub fn shallow(side: MeasuredSide) -> Result<MeasuredSide, ReadError>
 {
     match side {
         MeasuredSide::Meant(m) => {
-            if m.depth() <= 1000 {
+            if m.depth() <= DEPTH_LIMIT {
                 Ok(MeasuredSide::Meant(m))
             } else {
                 Err(refused(FaultKind::TooDeep))

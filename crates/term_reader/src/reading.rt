@@ -8,7 +8,7 @@ ghost use Rattle.mbqi_values.specs.declared.fault.FaultKind.{FaultKind};
 ghost use Rattle.smtlib_terms.specs.declared.meaning.Side.{Side};
 ghost use Rattle.smtlib_terms.specs.Answers.{IsFault};
 ghost use Rattle.smtlib_terms.specs.Applying.{alone, meaning_in_scope, name_applied};
-ghost use Rattle.smtlib_terms.specs.Declaring.{names_before, names_of, reader_of};
+ghost use Rattle.smtlib_terms.specs.Declaring.{arguments, body_applied, names_before, names_of, reader_of};
 ghost use Rattle.smtlib_terms.specs.Meaning.{variables_of};
 ghost use Rattle.smtlib_terms.specs.Operators.{two_sides};
 ghost use Rattle.smtlib_terms.specs.Reading.{binder_name, body_read, first_read, list_read, meant_by, part_of, side, sides_read, trees_in, variables_of_side};
@@ -17,7 +17,7 @@ ghost use Rattle.term_reader.specs.Plans.{arguments_read, binding_among, binding
 ghost use Rattle.smtlib_terms.specs.Words.{is_one_of};
 ghost use Rattle.term_reader.specs.Scopes.{binding_of, bindings_of, bound_of};
 
-use crate::macros::{arguments, sorts_of};
+use crate::macros::{arguments, meaning_at, sorts_of};
 use crate::making::{function_by_name, made, plainly, quantified, shallow};
 use crate::numeral::numeral;
 use crate::plan::{Plan, plan_of};
@@ -31,7 +31,7 @@ use sexpr_text::Sexpr;
 use smtlib_names::binders::bindable;
 use smtlib_names::names::{FoundMacro, Names};
 use smtlib_names::trees::{binder_name, text_of, trees_in};
-use smtlib_terms::names::{Macro, Variables};
+use smtlib_terms::names::{Macro, MacroBody, Parameter, Variables};
 use smtlib_terms::refused;
 use smtlib_terms::word::Word;
 use std::alloc::{AllocError, Global};
@@ -135,6 +135,26 @@ fn only(parts: &[Sexpr], body: MeasuredMeaning) -> Result<MeasuredMeaning, ReadE
     }
 }
 
+/// The body of a macro, with its parameters bound to arguments, by the macros that it may apply.
+#[cycle(reading)]
+fn read_macro_tree(
+    alloc: Global,
+    names: &Names,
+    before: usize,
+    parameters: &[Parameter],
+    tree: &Sexpr,
+    args: Meanings,
+    next: usize,
+    levels: usize,
+) -> Result<MeasuredMeaning, ReadError>
+    ensures { Means meaning_of result (meant_by tree.now (names_before names.now before) (arguments parameters.now (meanings_of args) next) next) }
+{
+    let below = fewer(levels)?;
+    let mut scope = Scope::new(alloc);
+    scope.enter(alloc, arguments(alloc, parameters, args, next)?)?;
+    read_meaning(alloc, names, before, &mut scope, tree, next, below)
+}
+
 /// A macro with its arguments, and the macros that its body may apply.
 #[cycle(reading)]
 fn read_macro(
@@ -148,7 +168,6 @@ fn read_macro(
 ) -> Result<MeasuredMeaning, ReadError>
     ensures { Means meaning_of result (macro_applied (reader_of (names_before names.now before) definition.now) (meanings_of args) next) }
 {
-    let below = fewer(levels)?;
     let parameters = definition.parameters.as_slice();
     let sorts = sorts_of(alloc, parameters)?;
     if args.len() != sorts.len() {
@@ -157,17 +176,12 @@ fn read_macro(
     if !have_sorts(sorts.as_slice(), args.as_slice()) {
         return Err(refused(FaultKind::WrongSort));
     }
-    let mut scope = Scope::new(alloc);
-    scope.enter(alloc, arguments(alloc, parameters, args, next)?)?;
-    read_meaning(
-        alloc,
-        names,
-        before,
-        &mut scope,
-        &definition.body,
-        next,
-        below,
-    )
+    match &definition.body {
+        MacroBody::Meaning(m) => Ok(meaning_at(alloc, next, m)?),
+        MacroBody::Tree(tree) => {
+            read_macro_tree(alloc, names, before, parameters, tree, args, next, levels)
+        }
+    }
 }
 
 /// A name with its arguments, by its innermost binding.

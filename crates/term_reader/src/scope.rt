@@ -117,9 +117,10 @@ fn moved(alloc: Global, shift: Shift, m: &MeasuredMeaning) -> Result<MeasuredMea
     ensures { IfOk result (λ copy. meaning_of copy ≡ shifted shift.from shift.by (meaning_of m.now)) }
 {
     match m {
-        MeasuredMeaning::Formula(f) => Ok(MeasuredMeaning::Formula(moved_formula(
-            alloc, shift, f,
-        )?)),
+        MeasuredMeaning::Formula(f) => {
+            let formula = moved_formula(alloc, shift, f.as_formula())?;
+            Ok(MeasuredMeaning::Formula(formula))
+        }
         MeasuredMeaning::Term(sort, t) => Ok(MeasuredMeaning::Term(*sort, t.copy(alloc)?)),
         MeasuredMeaning::Array(index, element, a) => {
             Ok(MeasuredMeaning::Array(*index, *element, a.copy(alloc)?))

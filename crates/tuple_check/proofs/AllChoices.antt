@@ -11,13 +11,14 @@ use Rattle.mbqi_terms.specs.declared.script.Assertion.{Assertion}
 use Rattle.mbqi_terms.specs.declared.script.Script.{Script}
 use Rattle.mbqi_terms.specs.declared.term.Term.{Term}
 use Rattle.mbqi_terms.proofs.Places.{all_at}
-use Rattle.function_model.specs.TruthOf.{Meanings, truth_of}
+use Rattle.mbqi_terms.specs.Meanings.{Meanings, truth_of}
 use Rattle.ground_form.specs.Atoms.{Decides, IsPool}
 use Rattle.ground_form.specs.Profile.{IsArgument, IsClause, IsElementary, IsRule, seed}
 use Rattle.ground_form.specs.declared.atoms.GroundAtom.{GroundAtom}
 use Rattle.ground_form.specs.declared.pool.Pool.{Pool}
 use Rattle.rule_form.specs.Rules.{IsChoice, IsOpen, assertion_at, clause_at, clause_of, formula_of, line_of, pool_terms, variables_of}
 use Rattle.rule_form.specs.declared.choice.Choice.{Choice}
+use Rattle.rule_form.proofs.Chosen.{line_clause}
 use Rattle.rule_form.proofs.Rests.{AtFrom, from_first, from_here, from_next}
 use Rattle.rule_form.proofs.Shapes.{rule_clause, rule_variables}
 use Rattle.tuple_check.specs.Failing.{choice_of, failing_from, failing_of, fails_at, term_in, truth_at}
@@ -186,9 +187,10 @@ module _ (script : Script) (is : IsElementary script) (pool : Pool) (is_pool : I
       let terms : c.terms ≡ map (term_in pool.terms) tuple = ap (λ d. d.terms) f.failing.choice_is in
       let clause : clause_of (assertion_at script.assertions c.rule) ≡ clause_of f.assertion.formula = ap (λ o. clause_of (formula_of o)) f.there in
       let long : length tuple ≡ variables_of f.assertion.formula = omega (arith, f.failing.is_tuple.long) in
-      ap (λ g. truth_of m (clause_at g c.terms)) clause ∙ (ap (λ ts. truth_of m (clause_at (clause_of f.assertion.formula) ts)) terms
+      ap (truth_of m) (line_clause script is c (is_choice c f))
+      ∙ (ap (λ g. truth_of m (clause_at g c.terms)) clause ∙ (ap (λ ts. truth_of m (clause_at (clause_of f.assertion.formula) ts)) terms
       ∙ (sym (rule_truth f.assertion f.rule tuple long f.failing.is_tuple.within m decides)
-      ∙ negated (truth_at pool atoms truths (clause_of f.assertion.formula) tuple) f.failing.is_tuple.passing))
+      ∙ negated (truth_at pool atoms truths (clause_of f.assertion.formula) tuple) f.failing.is_tuple.passing)))
 
   each : (P : Choice → Type 0) → ((c : Choice) → FailsSomewhere c → P c) → (k : ℕ) (choices : List Choice) → All (λ c. FailsSomewhere c × (k ≤ c.rule)) choices → All P choices
   each P give k [] all = All-nil P
@@ -308,8 +310,9 @@ module _ (script : Script) (is : IsElementary script) (pool : Pool) (is_pool : I
             let nothing = subst (λ j. failing_of pool atoms truths j (variables_of a.formula) (clause_of a.formula) ≡ []) n (nothing_of 0 script.assertions c.rule a none here.2) in
             let fails = none_passes (fails_at pool atoms truths (clause_of a.formula)) (length pool.terms) (variables_of a.formula) [] numbers.0
             (no_tuples c.rule (variables_of a.formula) (clause_of a.formula) some nothing) long numbers.1 in
-            ap (λ g. truth_of m (clause_at g c.terms)) clause ∙ (ap (λ ts. truth_of m (clause_at (clause_of a.formula) ts)) (sym numbers.2)
+            ap (truth_of m) (line_clause script is c legal)
+            ∙ (ap (λ g. truth_of m (clause_at g c.terms)) clause ∙ (ap (λ ts. truth_of m (clause_at (clause_of a.formula) ts)) (sym numbers.2)
             ∙ (sym (rule_truth a rule numbers.0 long numbers.1 m decides)
-            ∙ affirmed (truth_at pool atoms truths (clause_of a.formula) numbers.0) fails))
+            ∙ affirmed (truth_at pool atoms truths (clause_of a.formula) numbers.0) fails)))
         | inr past ↦ absurd (omega (arith, past.0, legal.rule))
       ]

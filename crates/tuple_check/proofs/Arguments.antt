@@ -18,7 +18,7 @@ use Rattle.ground_form.specs.Profile.{IsArgument, IsAtom, constant, seed}
 use Rattle.ground_form.specs.declared.pool.Pool.{Pool}
 use Rattle.ground_form.proofs.Numbers.{same_declared}
 use Rattle.rule_form.specs.Rules.{term_at}
-use Rattle.rule_form.specs.Substitution.{put_into}
+use Rattle.mbqi_terms.specs.Substitution.{put_into}
 use Rattle.rule_form.proofs.Putting.{put_apply, put_constant, put_variable}
 use Rattle.tuple_check.specs.Failing.{IsPlaced, argument_at, argument_layer, atom_at_tuple, atom_layer, atom_of_symbol, id_of, term_in}
 

@@ -1,7 +1,7 @@
 //! The choices at which rules fail.
 
 ghost use Rattle.std.specs.Prelude.{◌≡◌, ◌<◌, ◌+◌, ◌++◌, [], length, map, false, true, All, IfOk, OnOk};
-ghost use Rattle.function_model.specs.TruthOf.{Meanings, truth_of};
+ghost use Rattle.mbqi_terms.specs.Meanings.{Meanings, truth_of};
 ghost use Rattle.mbqi_terms.specs.Distinct.{AreDistinct};
 ghost use Rattle.ground_form.specs.Atoms.{Decides, IsPool};
 ghost use Rattle.ground_form.specs.Profile.{IsArgument, IsClause, IsElementary, IsRule};

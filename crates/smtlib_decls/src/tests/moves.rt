@@ -27,7 +27,7 @@ fn quantified(alloc: Global, free: usize, bound: usize) -> Result<MeasuredFormul
 #[test]
 fn bound_variable_moves_and_an_earlier_one_stays(rt: HostRuntime) -> Result<(), AllocError> {
     let source = quantified(rt.alloc(), 1, 2)?;
-    let moved = moved_formula(rt.alloc(), Shift { from: 2, by: 3 }, &source)?;
+    let moved = moved_formula(rt.alloc(), Shift { from: 2, by: 3 }, source.as_formula())?;
     let wanted = quantified(rt.alloc(), 1, 5)?;
     assert!(rt; same_formula(moved.as_formula(), wanted.as_formula()));
     assert!(rt; moved.depth() == 3 && moved.variables() == 1);

@@ -64,7 +64,9 @@ fn is_refused(alloc: Global, names: &Names, text: &str, kind: FaultKind) -> bool
 
 const MACROS: &str = "(define-fun m ((u Int)) Bool (forall ((v Int)) (= u v)))
  (define-fun d ((u Int)) Bool (= (- y u) 3)) (define-fun two () Int 2)
- (define-fun k ((x Int)) Bool (d x)) (define-fun s ((i Int)) (Array Int Int) (store a i 0))";
+ (define-fun k ((x Int)) Bool (d x)) (define-fun s ((i Int)) (Array Int Int) (store a i 0))
+ (define-fun all () Bool (forall ((v Int)) (= v x))) (define-fun both () Bool (and all all))
+ (define-fun kept () (Array Int Int) (store a x 0))";
 
 /// Texts, each with another text of the same meaning.
 const MEANINGS: &[(&str, &str)] = &[
@@ -90,6 +92,11 @@ const MEANINGS: &[(&str, &str)] = &[
     ("(let ((w (m x))) (and p w w))", "(and p (m x) (m x))"),
     ("(k z)", "(= y (+ z 3))"),
     ("(= two 2)", "(= 2 2)"),
+    (
+        "(forall ((u Int)) both)",
+        "(forall ((u Int)) (and (forall ((v Int)) (= v x)) (forall ((w Int)) (= w x))))",
+    ),
+    ("(= b kept)", "(= b (store a x 0))"),
     ("(! p :named n)", "p"),
     ("(select (store t 1 true) 1)", "(select (store t 1 true) 1)"),
     ("(select (store t 1 (and p)) 1)", "(select (store t 1 p) 1)"),
@@ -137,6 +144,8 @@ const REFUSALS: &[(&str, FaultKind)] = &[
     ("1.5", FaultKind::Unsupported),
     ("(g 1 2)", FaultKind::WrongCount),
     ("(m)", FaultKind::BadForm),
+    ("(two)", FaultKind::BadForm),
+    ("(two 1)", FaultKind::WrongCount),
     ("m", FaultKind::WrongCount),
     ("(m p)", FaultKind::WrongSort),
     ("(exists ((v Int)) v)", FaultKind::WrongSort),
@@ -203,5 +212,18 @@ fn terms_have_a_greatest_depth(rt: HostRuntime) -> Result<(), Fail> {
         let text = chain(alloc, count)?;
         assert!(rt; is_refused(alloc, &names, &text, FaultKind::TooDeep));
     }
+    Ok(())
+}
+
+#[test]
+fn last_macro_of_a_chain_means_what_the_first_does(rt: HostRuntime) -> Result<(), Fail> {
+    let mut macros = format!(in rt.alloc(); "(define-fun m0 () Bool (exists ((v Int)) (g v)))")?;
+    for number in 0..1000 {
+        let next = number + 1;
+        let text = format!(in rt.alloc(); "(define-fun m{next} () Bool m{number})")?;
+        macros.push_str(text.as_str())?;
+    }
+    let names = defined(rt.alloc(), macros.as_str())?;
+    assert!(rt; mean_one(rt.alloc(), &names, "m1000", "(exists ((w Int)) (g w))"));
     Ok(())
 }

@@ -1,4 +1,4 @@
-use Rattle.clause_search.specs.Clauses.{AreBelow}
+use Rattle.mbqi_values.specs.Clauses.{AreBelow}
 use Rattle.clause_search.proofs.tests.clauses_of.Given as goal
 
 abbrev pub invariant-loop-row : goal.invariant-loop-row

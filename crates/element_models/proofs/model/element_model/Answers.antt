@@ -102,5 +102,5 @@ returns-clause-decides c =
     let model : FunctionModel = record { sizes = c.in_ok-sizes.sizes; tables = c.from_vec.result } in
     subst (λ (ts : List Term). Decides script.functions ts atoms truths (values_in model)) (sym pool)
     (decided c.in_ok-sizes.sizes (length script.sorts) script.functions atoms truths c.from_vec.result are
-    (sorted script.sorts script.functions c.requires.elementary.named) c.requires.distinct
+    (sorted script.sorts script.functions (λ e. (c.requires.elementary.named e).0)) c.requires.distinct
     (subst (λ (ts : List Term). All (IsOver script.functions ts) atoms) pool c.requires.over) c.requires.truths)

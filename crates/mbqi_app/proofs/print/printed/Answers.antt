@@ -7,7 +7,7 @@ use Rattle.mbqi_app.proofs.print.printed.Goals as goal
 pub returns-clause-text : goal.returns-clause-text
 returns-clause-text c =
     let script = c.in_ok-script.script in
-    let text : c.write_script.new.into.items ≡ script_text script = c.in_ok-write_script.ensures ∙ ap (λ before. before ++ script_text script) c.new-text.ensures.items in
+    let text : c.write_script.new.into.items ≡ script_text script = c.in_ok-write_script.ensures.ok ∙ ap (λ before. before ++ script_text script) c.new-text.ensures.items in
     let small = c.write_script.new.into.small in
     let count = c.write_script.new.into.ok.0 in
     let fits = c.write_script.new.into.ok.1 in

@@ -1,7 +1,7 @@
 use Rattle.std.proofs.Common.{All, List, sym, ap, subst, ◌∙◌}
 use Rattle.std.specs.List.{list_all}
 use Rattle.mbqi_terms.specs.declared.instance.InstanceLine.{InstanceLine}
-use Rattle.function_model.specs.TruthOf.{truth_of}
+use Rattle.mbqi_terms.specs.Meanings.{truth_of}
 use Rattle.ground_form.specs.Atoms.{formulas_in}
 use Rattle.ground_form.specs.Profile.{IsClause, IsGround}
 use Rattle.ground_form.specs.declared.atoms.GroundAtom.{GroundAtom}

@@ -1,4 +1,4 @@
-use Rattle.printed_trees.proofs.ReadTerms.{term_means}
+use Rattle.printed_trees.proofs.ReadTerms.{atom_means, truth_is_meant}
 use Rattle.printed_trees.proofs.Spelled.{term_spelled}
 use Rattle.printed_trees.proofs.laws.term_is_read.Goals as goal
 
@@ -6,4 +6,7 @@ pub returns-clause-spelled : goal.returns-clause-spelled
 returns-clause-spelled c = term_spelled
 
 pub returns-clause-meaning : goal.returns-clause-meaning
-returns-clause-meaning c = term_means
+returns-clause-meaning c = atom_means
+
+pub returns-clause-truth : goal.returns-clause-truth
+returns-clause-truth c = truth_is_meant

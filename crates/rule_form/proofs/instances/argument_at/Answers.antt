@@ -4,7 +4,7 @@ use Rattle.mbqi_terms.specs.declared.term.Term.{Term}
 use Rattle.mbqi_terms.specs.declared.term.Term.TheVariants as term
 use Rattle.std.proofs.lemmas.Option.{get_or_from_slice_get, slice_get_read}
 use Rattle.rule_form.specs.Rules.{term_at}
-use Rattle.rule_form.specs.Substitution.{put_into}
+use Rattle.mbqi_terms.specs.Substitution.{put_into}
 use Rattle.rule_form.proofs.Putting.{put_variable, put_named, variable_within}
 use Rattle.rule_form.proofs.instances.argument_at.Goals as goal
 

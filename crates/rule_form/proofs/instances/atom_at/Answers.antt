@@ -3,7 +3,7 @@ use Rattle.mbqi_terms.specs.declared.term.Symbol.TheVariants as symbol
 use Rattle.mbqi_terms.specs.declared.term.Term.TheVariants as term
 use Rattle.ground_form.specs.Profile.{IsArgument}
 use Rattle.rule_form.specs.Rules.{term_at}
-use Rattle.rule_form.specs.Substitution.{put_into}
+use Rattle.mbqi_terms.specs.Substitution.{put_into}
 use Rattle.rule_form.proofs.Putting.{atom_arguments, put_apply}
 use Rattle.rule_form.proofs.instances.atom_at.Goals as goal
 

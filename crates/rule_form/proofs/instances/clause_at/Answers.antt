@@ -3,7 +3,7 @@ use Rattle.mbqi_terms.specs.declared.formula.Formula.TheVariants as formula
 use Rattle.ground_form.specs.Profile.{IsArgument, IsLiteral}
 use Rattle.ground_form.proofs.Truths.{any_literals}
 use Rattle.rule_form.specs.Rules.{term_at}
-use Rattle.rule_form.specs.Substitution.{put_into_formula}
+use Rattle.mbqi_terms.specs.Substitution.{put_into_formula}
 use Rattle.rule_form.proofs.Putting.{put_any}
 use Rattle.rule_form.proofs.instances.clause_at.Goals as goal
 

@@ -5,7 +5,7 @@ use Rattle.mbqi_terms.specs.declared.formula.Formula.{Formula}
 use Rattle.mbqi_terms.specs.declared.script.Assertion.{Assertion}
 use Rattle.ground_form.specs.Profile.{IsArgument, IsClause}
 use Rattle.rule_form.specs.Rules.{assertion_at, clause_at, clause_of, formula_of, line_of}
-use Rattle.rule_form.proofs.Chosen.{chosen, chosen_clause}
+use Rattle.rule_form.proofs.Chosen.{chosen, chosen_clause, line_clause}
 use Rattle.rule_form.proofs.instances.instance_line.Goals as goal
 
 -- the clause of the assertion at a place
@@ -36,6 +36,7 @@ returns c =
     let here = the_clause c.args.script.now.assertions c.args.choice.now.rule c.index-as_slice-choice.result c.rule_parts.result.1.now c.requires.choice.rule item
     c.rule_parts.ensures.clause in
     let formula : c.in_ok-clause_at.field-0 ≡ (line_of c.args.script.now.assertions c.args.choice.now).formula =
-    c.in_ok-clause_at.ensures ∙ (ap (clause_at c.rule_parts.result.1.now) c.as_slice-4.ensures ∙ ap (λ f. clause_at f c.args.choice.now.terms) here) in
+    c.in_ok-clause_at.ensures ∙ (ap (clause_at c.rule_parts.result.1.now) c.as_slice-4.ensures ∙ ap (λ f. clause_at f c.args.choice.now.terms) here)
+    ∙ sym (line_clause c.args.script.now c.requires.elementary c.args.choice.now c.requires.choice) in
     let terms : c.in_ok-copy_terms.field-0 ≡ c.args.choice.now.terms = c.in_ok-copy_terms.ensures ∙ c.as_slice-2.ensures in
     λ i. record { assertion = c.args.choice.now.rule; terms = terms i; formula = formula i }

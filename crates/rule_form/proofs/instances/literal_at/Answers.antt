@@ -1,7 +1,7 @@
 use Rattle.std.proofs.Common.{sym, ap, ◌∙◌}
 use Rattle.mbqi_terms.specs.declared.formula.Formula.TheVariants as formula
 use Rattle.rule_form.specs.Rules.{term_at}
-use Rattle.rule_form.specs.Substitution.{put_into_formula}
+use Rattle.mbqi_terms.specs.Substitution.{put_into_formula}
 use Rattle.rule_form.proofs.Putting.{put_atom, put_not}
 use Rattle.rule_form.proofs.instances.literal_at.Goals as goal
 

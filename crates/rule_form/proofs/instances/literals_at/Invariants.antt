@@ -1,6 +1,6 @@
 use Rattle.std.proofs.Common.{◌≡◌, map, take}
 use Rattle.rule_form.specs.Rules.{term_at}
-use Rattle.rule_form.specs.Substitution.{put_into_formula}
+use Rattle.mbqi_terms.specs.Substitution.{put_into_formula}
 use Rattle.rule_form.proofs.instances.literals_at.Given as goal
 
 abbrev pub invariant-loop-literal : goal.invariant-loop-literal

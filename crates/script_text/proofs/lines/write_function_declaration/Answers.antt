@@ -5,10 +5,10 @@ use Rattle.script_text.specs.Text.{declared_text, function_line}
 use Rattle.script_text.proofs.Pieces.{three_pieces}
 use Rattle.script_text.proofs.lines.write_function_declaration.Goals as goal
 
-pub returns : goal.returns
+pub returns-clause-ok : goal.returns-clause-ok
 unfolding function_line
-returns c =
+returns-clause-ok c =
     written c.extend_from_slice-2.result _ _ _ _ c.extend_from_slice-2.ensures.items
     (three_pieces c.args.into.now.items c.extend_from_slice.new.self.items c.write_declared.new.into.items
     (codes "(declare-fun ") (declared_text c.args.script.now c.args.function.now) (codes ")\n") _
-    c.in_ok-extend_from_slice.ensures.items c.in_ok-write_declared.ensures refl)
+    c.in_ok-extend_from_slice.ensures.items c.in_ok-write_declared.ensures.ok refl)

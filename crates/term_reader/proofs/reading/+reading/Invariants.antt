@@ -8,6 +8,9 @@ use Rattle.term_reader.specs.Plans.{arguments_behind, arguments_read, bindings_a
 use Rattle.term_reader.specs.Scopes.{bindings_of}
 use Rattle.term_reader.proofs.reading.+reading.Given as goal
 
+abbrev pub decreases-read_macro_tree : goal.decreases-read_macro_tree
+decreases-read_macro_tree l = 16 * l.levels
+
 abbrev pub decreases-read_macro : goal.decreases-read_macro
 decreases-read_macro l = 16 * l.levels + 1
 

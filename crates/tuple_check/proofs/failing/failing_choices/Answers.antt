@@ -5,7 +5,7 @@ use Rattle.std.proofs.lemmas.Option.{slice_get_read}
 use Rattle.mbqi_terms.specs.Distinct.{AreDistinct}
 use Rattle.mbqi_terms.specs.declared.script.Assertion.{Assertion}
 use Rattle.mbqi_terms.proofs.Places.{all_at}
-use Rattle.function_model.specs.TruthOf.{truth_of}
+use Rattle.mbqi_terms.specs.Meanings.{truth_of}
 use Rattle.ground_form.specs.Profile.{IsRule}
 use Rattle.ground_form.specs.declared.atoms.GroundAtom.{GroundAtom}
 use Rattle.ground_form.specs.declared.pool.Pool.{Pool}
