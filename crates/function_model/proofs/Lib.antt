@@ -1,3 +1,4 @@
+pub mod FittingModels
 pub mod FormulaTruths
 pub mod HoldsLaws
 pub mod Induction
@@ -18,7 +19,6 @@ pub mod ShownParts
 pub mod ShownTruth
 pub mod SmallValues
 pub mod SoundTests
-pub mod Soundness
 pub mod StoreValues
 pub mod SymbolTables
 pub mod TermParts

@@ -1,4 +1,4 @@
-use Rattle.function_model.proofs.Soundness.{fitting_sorts, fitting_sound, plain_sorts}
+use Rattle.function_model.proofs.FittingModels.{fitting_sorts, fitting_sound, plain_sorts}
 use Rattle.function_model.proofs.sound.fitting_is_sound.Goals as goal
 
 pub returns-clause-sound : goal.returns-clause-sound

@@ -1,4 +1,4 @@
-use Rattle.function_model.proofs.Soundness.{full_sorts, full_sound, plain_sorts}
+use Rattle.function_model.proofs.FittingModels.{full_sorts, full_sound, plain_sorts}
 use Rattle.function_model.proofs.sound.full_is_sound.Goals as goal
 
 pub returns-clause-sound : goal.returns-clause-sound
