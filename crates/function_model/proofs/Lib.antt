@@ -1,3 +1,4 @@
+pub mod EvaluableForms
 pub mod FittingModels
 pub mod FormulaTruths
 pub mod HoldsLaws
@@ -9,6 +10,7 @@ pub mod Narrowing
 pub mod OneTruth
 pub mod PlaceEnds
 pub mod PlaceRanks
+pub mod PointValues
 pub mod Projections
 pub mod RowLookups
 pub mod RowOrder

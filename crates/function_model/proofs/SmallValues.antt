@@ -1,13 +1,11 @@
 -- Values in sound models at points of small numbers are small, but for numerals and sums.
-use Rattle.std.proofs.Common.{◌≡◌, ℕ, zero, suc, pos, Bool, true, false, ◌==◌, List, [], ◌∷◌, length, drop, map, min, if◌then◌else◌, cond, refl, ap, sym, subst, ◌∙◌, arith}
+use Rattle.std.proofs.Common.{◌≡◌, ℕ, pos, Bool, true, false, List, [], ◌∷◌, map, if◌then◌else◌, cond, refl, ap, sym, subst, ◌∙◌}
 use Rattle.std.specs.Prelude.{All, IfSome, Option, None, Some, find}
 use Rattle.std.proofs.lemmas.Int.{ints}
-use Rattle.std.proofs.lemmas.List.{drop_all}
 use Rattle.std.proofs.lemmas.List.Elements.{All-head, All-tail}
 use Rattle.mbqi_values.specs.Sum.{IsBelow}
 use Rattle.mbqi_values.specs.declared.value.Value.{Value}
 use Rattle.mbqi_values.specs.declared.value.Value.TheVariants.{Num, Truth}
-use Rattle.mbqi_terms.specs.declared.sort.Binder.{Binder}
 use Rattle.mbqi_terms.specs.declared.term.ArrayTerm.{ArrayTerm}
 use Rattle.mbqi_terms.specs.declared.term.ArrayTerm.TheOpen.{ArrayTerm-F, Symbol-F, Term-F}
 use Rattle.mbqi_terms.specs.declared.term.ArrayTerm.TheViews.{roll-Term, roll-out-Term}
@@ -18,7 +16,6 @@ use Rattle.mbqi_terms.specs.Tree.{IsBase, IsPart, Layer}
 use Rattle.function_model.specs.Evaluable.{IsEvaluable, IsEvaluableLayer}
 use Rattle.function_model.specs.Fits.{IsSmall}
 use Rattle.function_model.specs.Lookup.{is_at, is_declared, is_difference, is_far, is_full, is_seed, is_skolem, looked_up_in, table_where, value_at}
-use Rattle.function_model.specs.Points.{point_of}
 use Rattle.function_model.specs.Sound.{IsSound, IsSoundTable}
 use Rattle.function_model.specs.Tabled.{given_or, symbol_gives, table_of_array, table_of_layer, untabled_layer}
 use Rattle.function_model.specs.ValueOf.{Point, array_of, value_of}
@@ -123,21 +120,3 @@ module _ (m : FunctionModel) (sound : IsSound m) where
 
     pub base_small : (t : Term) → IsBase (out-Term t) → IsEvaluable t → IsSmall (value_of m t p)
     base_small t base is = by_level t (out-Term t) refl base (is t (IsPart.itself t))
-
--- the values of a point
-pub point_small : (bs : List Binder) (vs : List Value) → All IsSmall vs → (place : ℕ) → IsSmall (point_of bs vs place)
-point_small [] vs all place = tt
-point_small (b ∷ bs) [] all place = tt
-point_small (b ∷ bs) (v ∷ vs) all place = by (b.place == place) (point_small bs vs (All-tail IsSmall v vs all) place)
-  where
-    by : (here : Bool) → IsSmall (point_of bs vs place) → IsSmall (if here then v else point_of bs vs place)
-    by true rest = All-head IsSmall v vs all
-    by false rest = rest
-
--- where binders or values end
-pub point_ends : (bs : List Binder) (vs : List Value) (place at : ℕ) → at ≡ min (length bs) (length vs) → point_of (drop at bs) (drop at vs) place ≡ Truth false
-point_ends [] vs place at e = ap (λ rest. point_of rest (drop at vs) place) (drop_all at [] (omega arith))
-point_ends (b ∷ bs) [] place zero e = refl
-point_ends (b ∷ bs) [] place (suc at) e = absurd (omega arith)
-point_ends (b ∷ bs) (v ∷ vs) place zero e = absurd (omega arith)
-point_ends (b ∷ bs) (v ∷ vs) place (suc at) e = point_ends bs vs place at (omega arith)

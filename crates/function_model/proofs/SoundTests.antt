@@ -3,7 +3,7 @@ use Rattle.std.proofs.Common.{◌≡◌, ℕ, zero, suc, ◌+◌, ◌-◌, ◌^�
 use Rattle.std.specs.Prelude.{All, Contains, Some, slice_get}
 use Rattle.std.specs.List.{list_all, list_any}
 use Rattle.std.specs.Ordering.{is_lt}
-use Rattle.std.proofs.lemmas.Bool.{and_parts, or_cases}
+use Rattle.std.proofs.lemmas.Bool.{and_parts, and_right, or_cases}
 use Rattle.std.proofs.lemmas.Int.{ints}
 use Rattle.std.proofs.lemmas.List.Elements.{All-cons, All-nil, All-weaker}
 use Rattle.mbqi_values.specs.Value.{is_same, rank_of}
@@ -49,6 +49,14 @@ contains_is v (k ∷ ks) e =
     (λ here. (0, omega arith, sym (same_value v k here)))
     (λ there. let rest = contains_is v ks there in (suc rest.0, omega (arith, rest.1), rest.2))
     (or_cases (is_same v k) (list_any (is_same v) ks) e)
+
+-- as many places as arguments
+pub places_missing : (kss : List (List Value)) (vs : List Value) → (length kss ≡ length vs → ⊥) → stands_on kss vs ≡ false
+places_missing [] [] other = absurd (other refl)
+places_missing [] (v ∷ vs) other = refl
+places_missing (ks ∷ kss) [] other = refl
+places_missing (ks ∷ kss) (v ∷ vs) other =
+    and_right (list_any (is_same v) ks) (stands_on kss vs) (places_missing kss vs (λ same. other (ap suc same)))
 
 stand_is : (kss : List (List Value)) (vs : List Value) → stands_on kss vs ≡ true → StandOn kss vs
 stand_is [] [] e = tt

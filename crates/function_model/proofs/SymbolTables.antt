@@ -118,3 +118,14 @@ module _ (f : ℕ) where
   pub declared_at : (m : FunctionModel) → IsSound m → table_where (is_declared f) m ≡ checked f (slice_get m.tables f)
   declared_at m sound =
       at_number 0 f (omega arith) m.tables (λ at g table there name. omega (arith, sound.numbered at g table there name))
+
+-- as the code has the cases
+module _ (m : FunctionModel) (f : ℕ) (sound : IsSound m) where
+  pub none_at_number : slice_get m.tables f ≡ None → None ≡ table_where (is_declared f) m
+  none_at_number e = sym (declared_at f m sound ∙ ap (checked f) e)
+
+  pub own_at_number : (table : Table) → slice_get m.tables f ≡ Some table → is_declared f table.name ≡ true → Some table ≡ table_where (is_declared f) m
+  own_at_number table e own = sym (declared_at f m sound ∙ (ap (checked f) e ∙ ap (λ b. if b then Some table else None) own))
+
+  pub other_at_number : (table : Table) → slice_get m.tables f ≡ Some table → is_declared f table.name ≡ false → None ≡ table_where (is_declared f) m
+  other_at_number table e other = sym (declared_at f m sound ∙ (ap (checked f) e ∙ ap (λ b. if b then Some table else None) other))

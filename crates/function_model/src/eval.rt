@@ -8,12 +8,12 @@ ghost use Rattle.function_model.specs.Fits.{IsSmall};
 ghost use Rattle.function_model.specs.Lookup.{given_by, is_declared, looked_up_in};
 ghost use Rattle.function_model.specs.Points.{point_of};
 ghost use Rattle.function_model.specs.Sound.{IsSound, IsSoundTable};
-ghost use Rattle.function_model.specs.Tabled.{symbol_gives};
 ghost use Rattle.function_model.specs.ValueOf.{Point, array_of, is_compound, value_of};
 
 use crate::by_halves::first_value;
 use crate::model::{FunctionModel, Table};
-use mbqi_terms::{ArrayTerm, Binder, Binders, Symbol, Term};
+use crate::parts::{application_parts, read_parts, sum_parts};
+use mbqi_terms::{ArrayTerm, Binder, Binders, Term};
 use mbqi_values::{Value, Values, plus};
 
 impl FunctionModel {
@@ -46,38 +46,27 @@ pub(crate) fn value_at(
     match t {
         Term::Num(number) => Value::Num(*number),
         Term::Plus(base, number) => {
-            plus_number(value_at(model, base.get(), binders, point), *number)
+            let base = base.get();
+            sum_parts(t, base, *number);
+            plus_number(value_at(model, base, binders, point), *number)
         }
         Term::Var(place) => value_of_place(binders, point, *place),
         Term::Truth(truth) => Value::Truth(*truth),
         Term::Apply(symbol, args) => {
-            value_of_symbol(model, symbol, args.as_slice(), binders, point)
+            let args = args.as_slice();
+            application_parts(t, symbol, args);
+            match model.table_of(symbol) {
+                Some(table) => value_of_table(model, table, args, binders, point),
+                None => model.untabled(symbol),
+            }
         }
         Term::Read(array, index) => {
-            let index = value_at(model, index.get(), binders, point);
-            read_name(model, array.get(), index)
+            let array = array.get();
+            let index = index.get();
+            read_parts(t, array, index);
+            read_name(model, array, value_at(model, index, binders, point))
         }
         Term::Default(_) => unreachable!(),
-    }
-}
-
-// The value of a symbol at the values of terms.
-#[cycle(value)]
-fn value_of_symbol(
-    model: &FunctionModel,
-    symbol: &Symbol,
-    args: &[Term],
-    binders: &[Binder],
-    point: &[Value],
-) -> Value
-    requires sound { IsSound model.now }
-    requires terms { All IsEvaluable args.now }
-    requires point { All IsSmall point.now }
-    ensures { result ≡ symbol_gives model.now symbol.now (map (λ t. value_of model.now t (point_of binders.now point.now)) args.now) }
-{
-    match model.table_of(symbol) {
-        Some(table) => value_of_table(model, table, args, binders, point),
-        None => model.untabled(symbol),
     }
 }
 

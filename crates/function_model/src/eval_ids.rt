@@ -37,8 +37,7 @@ impl FunctionModel {
         ensures table { option_copied result ≡ table_of_head self.now store.now.lists head }
         ensures sound { IfSome (option_copied result) IsSoundTable }
     {
-        let table = self.table_by_head(store, head);
-        table
+        self.table_by_head(store, head)
     }
 
     fn table_by_head(&self, store: &TermStore, head: Head) -> Option<&Table>
@@ -51,7 +50,7 @@ impl FunctionModel {
             Head::Skolem(assertion, place) => self.skolem_table(assertion, place),
             Head::Seed(sort) => self.seed_table(sort),
             Head::Far => self.far_table(),
-            Head::Diff(pair) if self.is_full() => {
+            Head::Diff(pair) => {
                 let pair = &store.arrays().atoms.as_slice()[pair];
                 self.difference_table(&pair.left, &pair.right)
             }
@@ -83,8 +82,8 @@ fn value_of_id(model: &FunctionModel, store: &TermStore, id: TermId) -> Value
     let node = store.node(id);
     match node.head {
         Head::Zero => Value::Num(node.plus),
-        head => {
-            let base = value_of_head(model, store, head, node.args.as_slice(), id);
+        _ => {
+            let base = value_of_head(model, store, node.head, node.args.as_slice(), id);
             plus_number(base, node.plus)
         }
     }

@@ -2,20 +2,26 @@
 
 ghost use Rattle.std.specs.Prelude.{◌≡◌, List, All, not, if◌then◌else◌};
 ghost use Rattle.std.specs.List.{list_all, list_any};
-ghost use Rattle.mbqi_values.specs.Value.{is_true};
+ghost use Rattle.mbqi_values.specs.Value.{is_true, rank_of};
 ghost use Rattle.mbqi_terms.specs.declared.script.Function.{Function as DeclaredFunction};
 ghost use Rattle.mbqi_terms.specs.HasSort.{IsMatrix, Setting};
 ghost use Rattle.mbqi_terms.specs.Meanings.{truth_of};
-ghost use Rattle.function_model.specs.Evaluable.{IsEvaluableFormula};
+ghost use Rattle.function_model.specs.Evaluable.{IsEvaluable, IsEvaluableFormula};
 ghost use Rattle.function_model.specs.Fits.{IsSmall};
 ghost use Rattle.function_model.specs.Holds.{HoldsAt};
 ghost use Rattle.function_model.specs.Points.{point_of, values_at};
 ghost use Rattle.function_model.specs.Sound.{GivesSorts, IsSound};
+ghost use Rattle.function_model.specs.ValueOf.{value_of};
 
 use crate::eval::value_at;
 use crate::model::FunctionModel;
-use mbqi_terms::{Binder, Binders, Formula};
+use crate::parts::{
+    at_most_parts, atom_parts, choice_parts, conjunction_parts, disjunction_parts, equal_parts,
+    equivalence_parts, negation_parts,
+};
+use mbqi_terms::{Binder, Binders, Formula, Term};
 use mbqi_values::{Value, Values};
+use std::cmp::Ordering;
 
 impl FunctionModel {
     /// Whether a formula without quantifiers is true at the point where the variable of each binder's place has the value of
@@ -43,27 +49,49 @@ fn truth_at(model: &FunctionModel, f: &Formula, binders: &[Binder], point: &[Val
 {
     match f {
         Formula::Truth(truth) => *truth,
-        Formula::Atom(t) => is_true(value_at(model, t, binders, point)),
+        Formula::Atom(t) => {
+            atom_parts(f, t);
+            is_true(value_at(model, t, binders, point))
+        }
         Formula::Equal(left, right) => {
-            let left = value_at(model, left, binders, point);
-            left.rank(&value_at(model, right, binders, point)).is_eq()
+            equal_parts(f, left, right);
+            rank_at(model, left, right, binders, point).is_eq()
         }
         Formula::AtMost(left, right) => {
-            let left = value_at(model, left, binders, point);
-            left.rank(&value_at(model, right, binders, point)).is_le()
+            at_most_parts(f, left, right);
+            rank_at(model, left, right, binders, point).is_le()
         }
-        Formula::Not(part) => !truth_at(model, part.get(), binders, point),
-        Formula::All(parts) => are_true_at(model, parts.as_slice(), binders, point),
-        Formula::Any(parts) => is_one_true_at(model, parts.as_slice(), binders, point),
+        Formula::Not(part) => {
+            let part = part.get();
+            negation_parts(f, part);
+            !truth_at(model, part, binders, point)
+        }
+        Formula::All(parts) => {
+            let parts = parts.as_slice();
+            conjunction_parts(f, parts);
+            are_true_at(model, parts, binders, point)
+        }
+        Formula::Any(parts) => {
+            let parts = parts.as_slice();
+            disjunction_parts(f, parts);
+            is_one_true_at(model, parts, binders, point)
+        }
         Formula::Iff(left, right) => {
-            let left = truth_at(model, left.get(), binders, point);
-            is_equal(left, truth_at(model, right.get(), binders, point))
+            let left = left.get();
+            let right = right.get();
+            equivalence_parts(f, left, right);
+            let first = truth_at(model, left, binders, point);
+            is_equal(first, truth_at(model, right, binders, point))
         }
         Formula::Choose(condition, yes, no) => {
-            if truth_at(model, condition.get(), binders, point) {
-                truth_at(model, yes.get(), binders, point)
+            let condition = condition.get();
+            let yes = yes.get();
+            let no = no.get();
+            choice_parts(f, condition, yes, no);
+            if truth_at(model, condition, binders, point) {
+                truth_at(model, yes, binders, point)
             } else {
-                truth_at(model, no.get(), binders, point)
+                truth_at(model, no, binders, point)
             }
         }
         Formula::SameArray(_, _) | Formula::Forall(_, _) | Formula::Exists(_, _) => {
@@ -112,6 +140,24 @@ fn is_one_true_at(
         }
     }
     false
+}
+
+/// How the values of two terms compare.
+fn rank_at(
+    model: &FunctionModel,
+    left: &Term,
+    right: &Term,
+    binders: &[Binder],
+    point: &[Value],
+) -> Ordering
+    requires sound { IsSound model.now }
+    requires left { IsEvaluable left.now }
+    requires right { IsEvaluable right.now }
+    requires point { All IsSmall point.now }
+    ensures { result ≡ rank_of (value_of model.now left.now (point_of binders.now point.now)) (value_of model.now right.now (point_of binders.now point.now)) }
+{
+    let value = value_at(model, left, binders, point);
+    value.rank(&value_at(model, right, binders, point))
 }
 
 fn is_equal(left: bool, right: bool) -> bool

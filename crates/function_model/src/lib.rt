@@ -8,10 +8,12 @@
 mod by_halves;
 mod eval;
 mod eval_ids;
+mod evaluable;
 mod ground;
 mod laws;
 mod look_up;
 pub mod model;
+mod parts;
 mod rising;
 mod shown;
 mod sound;
@@ -19,6 +21,7 @@ mod soundness;
 mod tabled;
 
 pub use by_halves::projected_by_halves;
+pub use evaluable::form_is_evaluable;
 pub use laws::{full_by_far, number_goes_to_greatest, one_truth, shown_keeps_truth};
 pub use look_up::projected;
 pub use model::{FunctionModel, Row, Rows, Table, TableName, Tables, ValueLists};

@@ -1,6 +1,6 @@
 //! The tables of a model by the symbols that they are of.
 
-ghost use Rattle.std.specs.Prelude.{◌≡◌, IfSome};
+ghost use Rattle.std.specs.Prelude.{◌≡◌, IfSome, None, if◌then◌else◌};
 ghost use Rattle.std.specs.Option.{option_copied};
 ghost use Rattle.mbqi_terms.specs.SameTree.{same_array};
 ghost use Rattle.mbqi_terms.specs.declared.term.ArrayTerm.{out-ArrayTerm};
@@ -20,8 +20,7 @@ impl FunctionModel {
         ensures table { option_copied result ≡ table_of self.now symbol.now }
         ensures sound { IfSome (option_copied result) IsSoundTable }
     {
-        let table = self.table_by_name(symbol);
-        table
+        self.table_by_name(symbol)
     }
 
     fn table_by_name(&self, symbol: &Symbol) -> Option<&Table>
@@ -33,11 +32,7 @@ impl FunctionModel {
             Symbol::Skolem(assertion, place) => self.skolem_table(*assertion, *place),
             Symbol::Seed(sort) => self.seed_table(*sort),
             Symbol::Far => self.far_table(),
-            Symbol::Diff(left, right) if self.is_full() => self.difference_table(
-                left.get(),
-                right.get(),
-            ),
-            Symbol::Diff(_, _) => None,
+            Symbol::Diff(left, right) => self.difference_table(left.get(), right.get()),
         }
     }
 
@@ -52,13 +47,20 @@ impl FunctionModel {
     }
 
     /// The table of a declared function, which stands at its number.
+    #[tactic(auto, using(
+        crate::proofs::SymbolTables::none_at_number, crate::proofs::SymbolTables::own_at_number, crate::proofs::SymbolTables::other_at_number
+    ))]
     pub(crate) fn declared_table(&self, function: usize) -> Option<&Table>
         requires { IsSound self.now }
         ensures { option_copied result ≡ table_where (is_declared function) self.now }
     {
-        match self.tables.get(function) {
-            Some(table) if is_declared(&table.name, function) => Some(table),
-            _ => None,
+        let Some(table) = self.tables.get(function) else {
+            return None;
+        };
+        if is_declared(&table.name, function) {
+            Some(table)
+        } else {
+            None
         }
     }
 
@@ -100,7 +102,18 @@ impl FunctionModel {
         self.far_table().is_some()
     }
 
+    /// The table of the index at which two arrays differ, in a full model.
     pub(crate) fn difference_table(&self, left: &ArrayTerm, right: &ArrayTerm) -> Option<&Table>
+        ensures { option_copied result ≡ (if is_full self.now then table_where (is_difference left.now right.now) self.now else None) }
+    {
+        if self.is_full() {
+            self.own_difference_table(left, right)
+        } else {
+            None
+        }
+    }
+
+    fn own_difference_table(&self, left: &ArrayTerm, right: &ArrayTerm) -> Option<&Table>
         ensures { option_copied result ≡ table_where (is_difference left.now right.now) self.now }
     {
         self.tables
