@@ -30,6 +30,8 @@ pub use shown::{shown_fits, shown_has_declared, shown_has_skolem};
 pub use sound::{fitting_is_sound, full_is_sound};
 
 #[cfg(test)]
+mod eval_tests;
+#[cfg(test)]
 mod tests;
 #[cfg(test)]
 mod value_tests;

@@ -5,7 +5,7 @@ use mbqi_values::{Value, Values};
 use std::alloc::{AllocError, Global};
 
 /// A table of one argument, with a row for each of some places.
-fn unary(
+pub(crate) fn unary(
     alloc: Global,
     function: usize,
     knots: &[Value],

@@ -1,6 +1,11 @@
-use Rattle.std.proofs.Common.{◌≡◌, ◌<◌, length, map, take_all, All, arith, ap, subst, sym, ◌∙◌}
+use Rattle.std.proofs.Common.{◌≡◌, ◌<◌, ℤ, length, map, take_all, All, arith, ap, subst, sym, ◌∙◌}
+use Rattle.std.proofs.lemmas.Int.{ints}
 use Rattle.std.proofs.lemmas.List.{length-map}
+use mir.Val.{to_z, of_z}
+use mir.Syntax.{w128}
+use Rattle.mbqi_values.specs.Sum.{IsBelow}
 use Rattle.mbqi_values.specs.Value.{plus_number}
+use Rattle.mbqi_values.specs.declared.value.Value.TheVariants.{Num}
 use Rattle.mbqi_terms.specs.declared.term_id.TermId.{TermId}
 use Rattle.function_model.specs.Evaluable.{IsEvaluable}
 use Rattle.function_model.specs.Fits.{IsSmall}
@@ -60,11 +65,17 @@ value_of_id-plus_number-requires-clause-value t c =
 
 pub value_of_id-plus_number-requires-clause-number : goal.value_of_id-plus_number-requires-clause-number
 value_of_id-plus_number-requires-clause-number t c =
-    node_number c.args.store.now c.args.id c.node-node.result.now c.node-node.ensures.tree c.node-node.ensures.form.shape c.in_default.not-Zero c.requires.term
+    let n = c.node-node.result.now.plus in
+    let back : to_z w128 (of_z w128 n) ≡ n = omega (arith, ints) in
+    subst (λ (number : ℤ). IsBelow number 124) (sym back)
+    (node_number c.args.store.now c.args.id c.node-node.result.now c.node-node.ensures.tree c.node-node.ensures.form.shape c.in_default.not-Zero c.requires.term)
 
 pub value_of_id-returns-in-Zero : goal.value_of_id-returns-in-Zero
 value_of_id-returns-in-Zero t c =
-    numeral_value c.args.store.now c.args.id c.node-node.result.now c.node-node.ensures.tree c.node-node.ensures.form.shape c.args.model.now c.in-Zero.is
+    let n = c.node-node.result.now.plus in
+    let back : to_z w128 (of_z w128 n) ≡ n = omega (arith, ints) in
+    ap Num back
+    ∙ numeral_value c.args.store.now c.args.id c.node-node.result.now c.node-node.ensures.tree c.node-node.ensures.form.shape c.args.model.now c.in-Zero.is
 
 pub value_of_id-returns-in_default : goal.value_of_id-returns-in_default
 value_of_id-returns-in_default t c =
@@ -72,6 +83,7 @@ value_of_id-returns-in_default t c =
     let s = c.args.store.now in
     let node = c.node-node.result.now in
     let base = c.value_of_head-base.ensures ∙ ap (λ ids. head_gives m s.lists node.head (map (stored_value m s) ids)) c.as_slice.ensures in
+    let back : to_z w128 (of_z w128 node.plus) ≡ node.plus = omega (arith, ints) in
     c.plus_number.ensures
-    ∙ (ap (λ v. plus_number v node.plus) base
+    ∙ ((λ i. plus_number (base i) (back i))
     ∙ node_value s c.args.id node c.node-node.ensures.tree c.node-node.ensures.form.shape c.in_default.not-Zero m c.requires.term)

@@ -1,14 +1,23 @@
-use Rattle.std.proofs.Common.{ap, sym, ◌∙◌}
+use Rattle.std.proofs.Common.{⊎_elim, ap, subst, sym, ◌∙◌}
 use Rattle.std.specs.List.{list_all, list_any}
 use Rattle.std.specs.Ordering.{is_eq, is_le}
 use Rattle.mbqi_values.specs.Value.{is_true}
 use Rattle.mbqi_terms.specs.Meanings.{Meanings, truth_of}
+use Rattle.function_model.specs.Evaluable.{IsEvaluableFormula}
 use Rattle.function_model.specs.Points.{point_of, values_at}
-use Rattle.function_model.proofs.FormulaTruths.{truth_all, truth_any, truth_at_most, truth_atom, truth_equal}
+use Rattle.function_model.proofs.FormulaTruths.{no_arrays, no_exists, no_forall, truth_all, truth_any, truth_at_most, truth_atom, truth_equal}
 use Rattle.function_model.proofs.ground.+truth.Goals as goal
 
 pub truth_at-unreachable-requires : goal.truth_at-unreachable-requires
-truth_at-unreachable-requires t c = ?
+truth_at-unreachable-requires t c =
+    ⊎_elim
+    (λ same. no_arrays same.0 same.1 (subst IsEvaluableFormula same.2 c.requires.formula))
+    (λ quantified.
+    ⊎_elim
+    (λ each. no_forall each.0 each.1 (subst IsEvaluableFormula each.2 c.requires.formula))
+    (λ some. no_exists some.0 some.1 (subst IsEvaluableFormula some.2 c.requires.formula))
+    quantified)
+    c.in-SameArray.is
 
 pub truth_at-returns-in-Atom : goal.truth_at-returns-in-Atom
 truth_at-returns-in-Atom t c =
