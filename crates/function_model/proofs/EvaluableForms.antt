@@ -18,7 +18,8 @@ use Rattle.mbqi_terms.specs.declared.sort.Plain.TheVariants as plain
 use Rattle.mbqi_terms.specs.declared.term.ArrayTerm.{ArrayTerm, out-ArrayTerm}
 use Rattle.mbqi_terms.specs.declared.term.ArrayTerm.TheFolds.{fold-ArrayTerm, fold-roll-ArrayTerm, fold-roll-Term, map-ArrayTerm}
 use Rattle.mbqi_terms.specs.declared.term.ArrayTerm.TheOpen.{ArrayTerm-F, Term-F}
-use Rattle.mbqi_terms.specs.declared.term.ArrayTerm.TheViews.{roll-out-ArrayTerm}
+use Rattle.mbqi_terms.specs.declared.term.ArrayTerm.TheVariants as array
+use Rattle.mbqi_terms.specs.declared.term.ArrayTerm.TheViews.{out-roll-ArrayTerm, roll-out-ArrayTerm}
 use Rattle.mbqi_terms.specs.declared.term.Symbol.{Symbol}
 use Rattle.mbqi_terms.specs.declared.term.Symbol.TheVariants as symbol
 use Rattle.mbqi_terms.specs.declared.term.Term as terms
@@ -70,6 +71,23 @@ applied f ts each = by_level (term.Apply f ts) (Term-F.Apply f ts) (out-apply f 
 
 none_of : (t : Term) → Contains [] t → IsEvaluable t
 none_of t there = absurd (omega (arith, there.1))
+
+-- as code makes them
+pub constant_is : (f : Symbol) (ts : List Term) → ts ≡ [] → IsEvaluable (term.Apply f ts)
+constant_is f ts e = applied f ts (λ t there. none_of t (subst (λ us. Contains us t) e there))
+
+one_of : (t u : Term) → IsEvaluable t → Contains (t ∷ []) u → IsEvaluable u
+one_of t u is (zero, within, e) = subst IsEvaluable e is
+one_of t u is (suc k, within, e) = absurd (omega (arith, within))
+
+pub call_is : (f : Symbol) (ts : List Term) (t : Term) → ts ≡ t ∷ [] → IsEvaluable t → IsEvaluable (term.Apply f ts)
+call_is f ts t e is = applied f ts (λ u there. one_of t u is (subst (λ us. Contains us u) e there))
+
+pub call_base : (f : Symbol) (ts : List Term) → IsBase (out-Term (term.Apply f ts))
+call_base f ts = let base : IsBase (Term-F.Apply f ts) = tt in subst IsBase (sym (out-apply f ts)) base
+
+pub name_is : (f : ℕ) → is_compound (array.Name f) ≡ false
+name_is f = ap is_compound_layer (ap out-ArrayTerm (sym (array.rolls-Name f)) ∙ out-roll-ArrayTerm (ArrayTerm-F.Name f))
 
 pub read_is : (a : ArrayTerm) (i : Term) → is_compound a ≡ false → IsEvaluable i → IsEvaluable (term.Read a i)
 read_is a i name is = by_level (term.Read a i) (Term-F.Read a i) (out-read a i) name is

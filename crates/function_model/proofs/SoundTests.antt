@@ -32,6 +32,9 @@ small_is (Num (negsuc n)) e = let within : n < 2 ^ 124 - 1 = ltb-true n (2 ^ 124
 small_is (Elem e) h = tt
 small_is (Truth t) h = tt
 
+pub all_small : (vs : List Value) → list_all is_small vs ≡ true → All IsSmall vs
+all_small vs e = each_passes is_small IsSmall small_is vs e
+
 rise_is : (v : Value) (vs : List Value) → knots_rise_behind v vs ≡ true → KnotsRise (v ∷ vs)
 rise_is v [] e = tt
 rise_is v (w ∷ ws) e = let both = and_parts (is_lt (rank_of v w)) (knots_rise_behind w ws) e in (both.0, rise_is w ws both.1)

@@ -1,10 +1,11 @@
 //! Values of terms and truths of formulas, by hand.
 
-ghost use Rattle.std.specs.Prelude.{◌≡◌, [], ◌∷◌, IfOk};
+ghost use Rattle.std.specs.Prelude.{All, IfOk, IsTrue};
 ghost use Rattle.mbqi_values.specs.Sum.{IsBelow};
 ghost use Rattle.mbqi_terms.specs.declared.term.Term.{out-Term};
 ghost use Rattle.mbqi_terms.specs.Tree.{IsBase};
 ghost use Rattle.function_model.specs.Evaluable.{IsEvaluable, IsEvaluableFormula};
+ghost use Rattle.function_model.specs.Fits.{IsSmall};
 ghost use Rattle.function_model.specs.Sound.{IsSound};
 
 use crate::soundness::are_small;
@@ -19,6 +20,12 @@ fn variable(place: usize) -> Term
     ensures { IsEvaluable result }
 {
     Term::Var(place)
+}
+
+fn constant(alloc: Global, function: usize) -> Term
+    ensures { IsEvaluable result }
+{
+    Term::Apply(Symbol::Declared(function), Terms::new(alloc))
 }
 
 fn call(alloc: Global, function: usize, arg: Term) -> Result<Term, AllocError>
@@ -59,6 +66,13 @@ fn one_binder(alloc: Global) -> Result<Binders, AllocError> {
     )
 }
 
+/// Whether all numbers are small, as those of a point have to be.
+fn make_point(values: &[Value]) -> bool
+    ensures { IsTrue result → All IsSmall values.now }
+{
+    are_small(values)
+}
+
 /// The value at a point of small numbers.
 fn value_at(
     alloc: Global,
@@ -71,7 +85,7 @@ fn value_at(
     requires term { IsEvaluable t.now }
 {
     let point = Values::from_slice(alloc, values)?;
-    if !are_small(point.as_slice()) {
+    if !make_point(point.as_slice()) {
         return Ok(None);
     }
     Ok(Some(model.eval_term(t, binders, &point)))
@@ -202,7 +216,7 @@ fn truth_at(
     requires formula { IsEvaluableFormula f.now }
 {
     let point = Values::from_slice(alloc, values)?;
-    if !are_small(point.as_slice()) {
+    if !make_point(point.as_slice()) {
         return Ok(None);
     }
     Ok(Some(model.eval_ground(f, binders, &point)))
@@ -244,5 +258,8 @@ fn each_part_of_a_choice_decides(rt: HostRuntime) -> Result<(), AllocError> {
         )?;
         assert!(rt; found == Some(truth), "at {x} {y}");
     }
+    let always = atom(constant(alloc, 1));
+    let found = truth_at(alloc, &model, &always, &Binders::new(alloc), &[])?;
+    assert!(rt; found == Some(true), "the constant");
     Ok(())
 }
