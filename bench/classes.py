@@ -154,6 +154,16 @@ fn main(rt: HostRuntime) -> Result<(), io::Error> {
 }
 """
 
+# The functions with a loop, and its name.
+LOOPS = {"join_chain": "loop-node", "join_level": "loop-node", "join_tree": "loop-level", "join_random": "loop", "mark_paths": "loop-node"}
+
+INVARIANT = """use Rattle.std.proofs.Common.{◌≡◌}
+use Rattle.classes_bench.proofs.FUNCTION.Given as goal
+
+abbrev pub invariant-LOOP : goal.invariant-LOOP
+invariant-LOOP l = l.forest.nodes ≡ l.count
+"""
+
 
 def make_repository(top, counts):
     """Writes the repository into the folder."""
@@ -163,6 +173,10 @@ def make_repository(top, counts):
     os.makedirs(os.path.join(program, "src"))
     with open(os.path.join(program, "src", "main.rt"), "w", encoding="utf-8") as file:
         file.write(PROGRAM.replace("COUNTS", ", ".join(f"{count}usize" for count in counts)))
+    for function, loop in LOOPS.items():
+        os.makedirs(os.path.join(program, "proofs", function))
+        with open(os.path.join(program, "proofs", function, "Invariants.antt"), "w", encoding="utf-8") as file:
+            file.write(INVARIANT.replace("FUNCTION", function).replace("LOOP", loop))
     with open(os.path.join(TOP, "crates.txt"), encoding="utf-8") as file:
         lines = [line for line in file if line.split(":")[0] in CRATES]
     with open(os.path.join(top, "crates.txt"), "w", encoding="utf-8") as file:

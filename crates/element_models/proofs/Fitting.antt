@@ -1,5 +1,5 @@
 -- The tables of elementary functions fit them, also once their rows are in order.
-use Rattle.std.proofs.Common.{◌≡◌, ℕ, suc, ◌+◌, ◌-◌, ◌<◌, ◌≤◌, Bool, true, false, List, [], ◌∷◌, length, get_or, refl, sym, ap, subst, ◌∙◌, cond, inl, inr, arith}
+use Rattle.std.proofs.Common.{◌≡◌, ℕ, suc, ◌+◌, ◌-◌, ◌<◌, ◌≤◌, Bool, true, false, List, [], ◌∷◌, ◌++◌, append-nil, map, length, get_or, refl, sym, ap, subst, ◌∙◌, cond, inl, inr, arith}
 use Rattle.std.specs.Prelude.{◌⊎◌, All, Contains, replicate, slice_index}
 use Rattle.std.specs.List.{AllByRecursion, AllZip}
 use Rattle.std.proofs.lemmas.List.{length-replicate, get_or-replicate}
@@ -10,7 +10,7 @@ use Rattle.mbqi_terms.specs.declared.script.Function.{Function}
 use Rattle.mbqi_terms.specs.declared.script.Script.{Script}
 use Rattle.mbqi_terms.specs.declared.sort.Sort.{Sort}
 use Rattle.mbqi_terms.specs.declared.sort.Sort.TheVariants as sort
-use Rattle.function_model.specs.Fits.{AreRows, IsRow, HaveKnots, IsShown, FitFunctions, FitHidden, FitsFunction, FitsFull}
+use Rattle.function_model.specs.Fits.{AreRows, IsRow, HaveKnots, IsShown, FitsFull, FitsSignature, Signature, far_signature, array_signatures, function_signature, function_signatures, hidden_signatures, seed_signatures, shown_signatures, skolem_signature}
 use Rattle.function_model.specs.Rising.{RowsRise}
 use Rattle.function_model.specs.declared.model.Row.{Row}
 use Rattle.function_model.specs.declared.model.Table.{Table}
@@ -25,6 +25,7 @@ use Rattle.element_models.proofs.BareTables.{shown_are, default_is_shown}
 use Rattle.element_models.proofs.Counting.{size_of, terms_of, constants_in, length_constants, length_terms}
 use Rattle.element_models.proofs.HiddenTables.{hidden_fit}
 use Rattle.element_models.proofs.Knots.{have_knots, stand}
+use Rattle.element_models.proofs.NothingHidden.{lists_are, no_skolems}
 
 -- Rising rows, each of which is a row of a table, may be all its rows.
 abbrev pub RowsFit : Type 0
@@ -46,7 +47,7 @@ module _ (fit : RowsFit) where
       (recursion_from_All P raised.rows (All-weaker (Contains raised.rows) P each raised.rows (All-contains_itself raised.rows)))
 
   constant_fits : (f e size : ℕ) (name : List ℕ) (raised : Table) → e < size → IsRaised (constant_table f e) raised
-      → FitsFunction (size ∷ []) f (record { name = name; args = []; result = the_sort }) raised
+      → FitsSignature (size ∷ []) (function_signature f (record { name = name; args = []; result = the_sort })) raised
   constant_fits f e size name raised h is = record {
     name = is.name;
     fits = record {
@@ -59,7 +60,7 @@ module _ (fit : RowsFit) where
   predicate_fits : (rows : List Row) (f size : ℕ) (name : List ℕ) (args : List Sort) (raised : Table) → 0 < size
       → AllByRecursion (λ arg. arg ≡ the_sort) args → AllByRecursion (IsRow (size ∷ []) (knots_of size args) sort.Truth) rows
       → IsRaised (predicate_table rows f size args) raised
-      → FitsFunction (size ∷ []) f (record { name = name; args = args; result = sort.Truth }) raised
+      → FitsSignature (size ∷ []) (function_signature f (record { name = name; args = args; result = sort.Truth })) raised
   predicate_fits rows f size name args raised h each all is = record {
     name = is.name;
     fits = record {
@@ -75,15 +76,15 @@ module _ (fit : RowsFit) where
       → IsConstant (record { name = name; args = args; result = result }) ⊎ IsPredicate (record { name = name; args = args; result = result })
       → WantedRows rows size f (record { name = name; args = args; result = result })
       → IsRaised (table_for rows f e size (record { name = name; args = args; result = result })) raised
-      → FitsFunction (size ∷ []) f (record { name = name; args = args; result = result }) raised
+      → FitsSignature (size ∷ []) (function_signature f (record { name = name; args = args; result = result })) raised
   function_fits rows f e size name args result raised h (inl is) wanted to =
       let P : Sort → Type 0 = λ r. IsRaised (table_for rows f e size (record { name = name; args = args; result = r })) raised
-      → FitsFunction (size ∷ []) f (record { name = name; args = args; result = r }) raised in
-      let Q : List Sort → Type 0 = λ a. FitsFunction (size ∷ []) f (record { name = name; args = a; result = the_sort }) raised in
+      → FitsSignature (size ∷ []) (function_signature f (record { name = name; args = args; result = r })) raised in
+      let Q : List Sort → Type 0 = λ a. FitsSignature (size ∷ []) (function_signature f (record { name = name; args = a; result = the_sort })) raised in
       subst P (sym is.0) (λ to. subst Q (sym is.1) (constant_fits f e size name raised h to)) to
   function_fits rows f e size name args result raised h (inr is) wanted to =
       let P : Sort → Type 0 = λ r. IsRaised (table_for rows f e size (record { name = name; args = args; result = r })) raised
-      → FitsFunction (size ∷ []) f (record { name = name; args = args; result = r }) raised in
+      → FitsSignature (size ∷ []) (function_signature f (record { name = name; args = args; result = r })) raised in
       subst P (sym is.0) (predicate_fits (rows f) f size name args raised (omega arith) is.1 (wanted is)) to
 
   -- the next constant is an element too
@@ -95,7 +96,7 @@ module _ (fit : RowsFit) where
       → AllByRecursion (λ function. IsConstant function ⊎ IsPredicate function) functions
       → ((k : ℕ) (d : Function) → k < length functions → WantedRows rows size (f + k) (get_or functions k d))
       → AllZip IsRaised (tables_from rows f e size functions) raised
-      → FitFunctions (size ∷ []) f functions raised
+      → AllZip (FitsSignature (size ∷ [])) (function_signatures f functions) raised
   tables_fit rows f e size [] [] h each wanted to = tt
   tables_fit rows f e size [] (r ∷ raised) h each wanted to = absurd to
   tables_fit rows f e size (function ∷ functions) [] h each wanted to = absurd to
@@ -109,7 +110,7 @@ module _ (fit : RowsFit) where
         to.1,
   )
 
-  nothing : (raised : List Table) → AllZip IsRaised [] raised → FitFunctions [] 0 [] raised
+  nothing : (raised : List Table) → AllZip IsRaised [] raised → AllZip (FitsSignature []) [] raised
   nothing [] to = tt
   nothing (r ∷ raised) to = absurd to
 
@@ -118,10 +119,10 @@ module _ (fit : RowsFit) where
       → (sorts ≡ [] → functions ≡ []) → AllByRecursion (λ function. IsConstant function ⊎ IsPredicate function) functions
       → ((k : ℕ) (d : Function) → k < length functions → WantedRows rows (size_of functions) k (get_or functions k d))
       → AllZip IsRaised (tables_from rows 0 0 (size_of functions) functions) raised
-      → FitFunctions (replicate (length sorts) (size_of functions)) 0 functions raised
+      → AllZip (FitsSignature (replicate (length sorts) (size_of functions))) (function_signatures 0 functions) raised
   all_fit [] rows functions raised few named each wanted to =
       let P : List Function → Type 0 = λ fs. AllZip IsRaised (tables_from rows 0 0 (size_of functions) fs) raised
-      → FitFunctions (replicate 0 (size_of functions)) 0 fs raised in
+      → AllZip (FitsSignature (replicate 0 (size_of functions))) (function_signatures 0 fs) raised in
       subst P (sym (named refl)) (nothing raised) to
   all_fit (sort ∷ []) rows functions raised few named each wanted to =
       tables_fit rows 0 0 (size_of functions) functions raised (omega (arith, length_constants 0 functions)) each
@@ -145,10 +146,30 @@ wanted_rows functions atoms truths over k d h is =
     (stand (size_of functions) (get_or functions k d).args atom.args many below, (tt, tt)))
 
 -- the tables of the hidden names
-names_fit : (size : ℕ) (sorts : List (List ℕ)) → 1 ≤ size → FitHidden (replicate (length sorts) size) 0 sorts (hidden_from (size - 1) 0 (length sorts))
+names_fit : (size : ℕ) (sorts : List (List ℕ)) → 1 ≤ size
+    → AllZip (FitsSignature (replicate (length sorts) size)) (seed_signatures 0 sorts ++ (far_signature ∷ [])) (hidden_from (size - 1) 0 (length sorts))
 names_fit size sorts some =
     hidden_fit (replicate (length sorts) size) (size - 1) 0 sorts
     (λ k h l. let is : slice_index (replicate (length sorts) size) k ≡ size = get_or-replicate (length sorts) k size 0 (omega arith) in omega (arith, is))
+
+zip_append : {A : Type 0} → {B : Type 0} → (R : A → B → Type 0) (xs more : List A) (ys others : List B) → AllZip R xs ys → AllZip R more others → AllZip R (xs ++ more) (ys ++ others)
+zip_append R [] more [] others zip behind = behind
+zip_append R [] more (y ∷ ys) others zip behind = absurd zip
+zip_append R (x ∷ xs) more [] others zip behind = absurd zip
+zip_append R (x ∷ xs) more (y ∷ ys) others zip behind = (zip.0, zip_append R xs more ys others zip.1 behind)
+
+-- nothing is asked but the declared functions, the seeds and the far integer
+signatures_are : (script : Script) → IsElementary script
+    → shown_signatures script ++ hidden_signatures script
+    ≡ function_signatures 0 script.functions ++ (seed_signatures 0 script.sorts ++ (far_signature ∷ []))
+signatures_are script is =
+    let functions : List Signature = function_signatures 0 script.functions in
+    let seeds : List Signature = seed_signatures 0 script.sorts in
+    let shown : shown_signatures script ≡ functions =
+    ap (λ skolems. functions ++ map skolem_signature skolems) (no_skolems script is) ∙ append-nil functions in
+    let hidden : hidden_signatures script ≡ seeds ++ (far_signature ∷ []) =
+    λ k. seeds ++ (far_signature ∷ array_signatures (lists_are script is k)) in
+    λ k. shown k ++ hidden k
 
 -- the model of an elementary script fits it
 pub model_fits : RowsFit → (script : Script) (sizes : List ℕ) (tables : List Table) (atoms : List GroundAtom) (truths : List Bool)
@@ -158,14 +179,19 @@ pub model_fits : RowsFit → (script : Script) (sizes : List ℕ) (tables : List
     → FitsFull script (record { sizes = sizes; tables = tables })
 model_fits fit script sizes tables atoms truths is over same are =
     let P : List ℕ → Type 0 = λ ss. FitsFull script (record { sizes = ss; tables = tables }) in
+    let universe : List ℕ = replicate (length script.sorts) (size_of script.functions) in
+    let Fit : List Signature → List Table → Type 0 = AllZip (FitsSignature universe) in
+    let declared = all_fit fit script.sorts (rows_of atoms truths) script.functions are.declared is.sorts (λ e. (is.named e).0) is.functions
+    (wanted_rows script.functions atoms truths over) are.raised in
+    let each : Fit (function_signatures 0 script.functions ++ (seed_signatures 0 script.sorts ++ (far_signature ∷ [])))
+    (are.declared ++ hidden_from (size_of script.functions - 1) 0 (length script.sorts)) =
+    zip_append (FitsSignature universe) (function_signatures 0 script.functions) (seed_signatures 0 script.sorts ++ (far_signature ∷ []))
+    are.declared (hidden_from (size_of script.functions - 1) 0 (length script.sorts)) declared
+    (names_fit (size_of script.functions) script.sorts (omega arith)) in
     subst P (sym same)
     (record {
       sorts = length-replicate (length script.sorts) (size_of script.functions);
       sizes = All-replicate (λ size. 1 ≤ size) (length script.sorts) (size_of script.functions) (omega arith);
-      declared = are.declared;
-      hidden = hidden_from (size_of script.functions - 1) 0 (length script.sorts);
-      tables = are.all;
-      functions = all_fit fit script.sorts (rows_of atoms truths) script.functions are.declared is.sorts (λ e. (is.named e).0) is.functions
-          (wanted_rows script.functions atoms truths over) are.raised;
-      names = names_fit (size_of script.functions) script.sorts (omega arith);
+      tables = subst (λ (signatures : List Signature). Fit signatures tables) (sym (signatures_are script is))
+          (subst (Fit (function_signatures 0 script.functions ++ (seed_signatures 0 script.sorts ++ (far_signature ∷ [])))) (sym are.all) each);
     })

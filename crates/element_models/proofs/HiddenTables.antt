@@ -7,7 +7,7 @@ use Rattle.mbqi_values.specs.Sum.{IsBelow}
 use Rattle.mbqi_values.specs.declared.value.Value.TheVariants as value
 use Rattle.mbqi_terms.specs.declared.script.Function.{Function}
 use Rattle.mbqi_terms.specs.declared.sort.Sort.{Sort}
-use Rattle.function_model.specs.Fits.{FitHidden}
+use Rattle.function_model.specs.Fits.{FitsSignature, far_signature, seed_signatures}
 use Rattle.function_model.specs.Lookup.{is_declared, is_seed}
 use Rattle.function_model.specs.declared.model.Row.{Row}
 use Rattle.function_model.specs.declared.model.Table.{Table}
@@ -24,8 +24,8 @@ small : IsBelow (pos 0) 124
 small = (omega (arith, ints), omega (arith, ints))
 
 pub hidden_fit : (sizes : List ℕ) (e s : ℕ) (sorts : List (List ℕ)) → ((k : ℕ) → s ≤ k → k < s + length sorts → e < slice_index sizes k)
-    → FitHidden sizes s sorts (hidden_from e s (length sorts))
-hidden_fit sizes e s [] below = record { name = refl; fits = record { knots = tt; rows = tt; default = (tt, small) } }
+    → AllZip (FitsSignature sizes) (seed_signatures s sorts ++ (far_signature ∷ [])) (hidden_from e s (length sorts))
+hidden_fit sizes e s [] below = (record { name = refl; fits = record { knots = tt; rows = tt; default = (tt, small) } }, tt)
 hidden_fit sizes e s (name ∷ names) below = (
   record { name = refl; fits = record { knots = tt; rows = tt; default = (below s (omega arith) (omega arith), tt) } },
   hidden_fit sizes e (s + 1) names (λ k h l. below k (omega arith) (omega arith)),

@@ -7,5 +7,6 @@ pub mod Fitting
 pub mod HiddenTables
 pub mod Knots
 pub mod Lookups
+pub mod NothingHidden
 pub mod Raising
 pub mod Values

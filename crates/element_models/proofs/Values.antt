@@ -1,5 +1,5 @@
 -- In the model of atoms with truths each term of the pool is its element, and each atom has its truth.
-use Rattle.std.proofs.Common.{◌≡◌, ℕ, ◌+◌, ◌-◌, ◌<◌, ◌≤◌, Bool, false, List, [], ◌∷◌, length, map, get_or, refl, ap, sym, subst, ◌∙◌, ⊎_elim, arith, rules}
+use Rattle.std.proofs.Common.{◌≡◌, ℕ, ◌+◌, ◌-◌, ◌<◌, ◌≤◌, Bool, false, List, [], ◌∷◌, length, map, get_or, refl, ap, sym, subst, ◌∙◌, ⊎_elim, arith}
 use Rattle.std.specs.Prelude.{All, pos}
 use Rattle.std.specs.List.{AllByRecursion, find}
 use Rattle.std.proofs.Math.Seq.{get_or-append_seam}
@@ -14,16 +14,16 @@ use Rattle.mbqi_terms.specs.Store.{tree_at}
 use Rattle.mbqi_terms.specs.declared.script.Function.{Function}
 use Rattle.mbqi_terms.specs.declared.sort.Sort.TheVariants as sort
 use Rattle.mbqi_terms.specs.declared.term.Symbol.TheVariants as symbol
-use Rattle.mbqi_terms.specs.declared.term.Term as terms
 use Rattle.mbqi_terms.specs.declared.term.Term.{Term}
 use Rattle.mbqi_terms.specs.declared.term.Term.TheVariants as term
 use Rattle.mbqi_terms.specs.declared.term_id.TermId.{TermId}
 use Rattle.function_model.specs.Fits.{IsRow}
 use Rattle.function_model.specs.Holds.{nowhere, values_in}
-use Rattle.function_model.specs.Lookup.{looked_up, looked_up_in, table_where, is_declared, is_seed, value_at}
-use Rattle.function_model.specs.ValueOf.{Point, value_of}
+use Rattle.function_model.specs.Lookup.{looked_up, looked_up_in, is_seed, value_at}
+use Rattle.function_model.specs.ValueOf.{value_of}
 use Rattle.function_model.specs.declared.model.FunctionModel.{FunctionModel}
 use Rattle.function_model.specs.declared.model.Table.{Table}
+use Rattle.function_model.proofs.Values.{value_apply, value_seed}
 use Rattle.ground_form.specs.Atoms.{Decides, IsOver, atom_tree, atom_at}
 use Rattle.ground_form.specs.Profile.{IsPredicate, is_constant, is_element, constants_of, seed}
 use Rattle.ground_form.specs.declared.atoms.GroundAtom.{GroundAtom}
@@ -38,16 +38,6 @@ use Rattle.element_models.proofs.HiddenTables.{declared_before, seed_behind, fir
 use Rattle.element_models.proofs.Knots.{at_itself, at_only}
 use Rattle.element_models.proofs.Lookups.{table_of, raised_give, predicate_found, constant_found}
 
--- an application is looked up at its arguments' values
-value_apply : (m : FunctionModel) (f : ℕ) (args : List Term) (p : Point)
-    → value_of m (term.Apply (symbol.Declared f) args) p ≡ looked_up (table_where (is_declared f) m) (map (λ t. value_of m t p) args)
-unfolding value_of
-value_apply m f args p = search (rules, terms.the_lemmas)
-
-value_seed : (m : FunctionModel) (p : Point) → value_of m seed p ≡ looked_up (table_where (is_seed 0) m) []
-unfolding value_of
-value_seed m p = search (rules, terms.the_lemmas)
-
 module _ (sizes : List ℕ) (sorts : ℕ) (functions : List Function) (atoms : List GroundAtom) (truths : List Bool) (tables : List Table)
     (are : AreTables functions atoms truths (size_of functions) sorts tables) where
   abbrev model : FunctionModel
@@ -61,7 +51,7 @@ module _ (sizes : List ℕ) (sorts : ℕ) (functions : List Function) (atoms : L
       → value_of model (term.Apply (symbol.Declared f) args) nowhere ≡ looked_up (table_of f given) (map (λ t. value_of model t nowhere) args)
   declared_value f args =
       let values : List Value = map (λ t. value_of model t nowhere) args in
-      value_apply model f args nowhere
+      value_apply model nowhere f args
       ∙ (ap (λ table. looked_up table values) (ap (table_of f) are.all ∙ declared_before f (size_of functions - 1) 0 sorts are.declared)
       ∙ raised_give f values given are.declared are.raised)
 
@@ -77,7 +67,7 @@ module _ (sizes : List ℕ) (sorts : ℕ) (functions : List Function) (atoms : L
   seed_value some =
       let last = size_of functions - 1 in
       let n : last ≡ length (constants_of functions) = omega arith in
-      value_seed model nowhere
+      value_seed model nowhere 0
       ∙ (ap (λ table. looked_up table [])
       (ap (λ (ts : List Table). find (λ table. is_seed 0 table.name) ts) are.all
       ∙ (seed_behind 0 (rows_of atoms truths) 0 0 (size_of functions) functions are.declared (hidden_from last 0 sorts) are.raised ∙ first_seed last sorts some))

@@ -1,11 +1,10 @@
 -- The models of elementary scripts (this project's own): each constant is an element of its own, and the last element is that of
 -- the seed, which stands for what has no name.
-use Rattle.std.specs.Prelude.{◌≡◌, ℕ, pos, zero, suc, ◌+◌, false, List, [], ◌∷◌, map, All, if◌then◌else◌}
+use Rattle.std.specs.Prelude.{ℕ, pos, zero, suc, ◌+◌, false, List, [], ◌∷◌, map, if◌then◌else◌}
 use Rattle.mbqi_values.specs.declared.value.Value.{Value}
 use Rattle.mbqi_values.specs.declared.value.Value.TheVariants as value
 use Rattle.mbqi_terms.specs.declared.script.Function.{Function}
 use Rattle.mbqi_terms.specs.declared.sort.Sort.{Sort}
-use Rattle.function_model.specs.declared.model.FunctionModel.{FunctionModel}
 use Rattle.function_model.specs.declared.model.Row.{Row}
 use Rattle.function_model.specs.declared.model.Table.{Table}
 use Rattle.function_model.specs.declared.model.TableName.{TableName}
@@ -70,7 +69,3 @@ no_rows f = []
 abbrev pub hidden_from : ℕ → ℕ → ℕ → List Table
 hidden_from e s zero = bare_table Far (value.Num (pos 0)) ∷ []
 hidden_from e s (suc n) = bare_table (Seed s) (value.Elem e) ∷ hidden_from e (s + 1) n
-
--- No table without arguments has a row: its default is its value.
-abbrev pub NoRowsWithoutArguments : FunctionModel → Type 0
-NoRowsWithoutArguments model = All (λ table. table.knots ≡ [] → table.rows ≡ []) model.tables

@@ -5,12 +5,12 @@ ghost use Rattle.mbqi_values.specs.declared.value.Value.TheVariants.{Elem};
 ghost use Rattle.mbqi_terms.specs.Distinct.{AreDistinct};
 ghost use Rattle.mbqi_terms.specs.Store.{tree_at};
 ghost use Rattle.mbqi_terms.specs.declared.term_id.TermId.{TermId};
-ghost use Rattle.function_model.specs.Fits.{FitsFull};
+ghost use Rattle.function_model.specs.Fits.{FitsFull, NoRowsWithoutArguments};
 ghost use Rattle.function_model.specs.Holds.{nowhere, values_in};
 ghost use Rattle.function_model.specs.ValueOf.{value_of};
 ghost use Rattle.ground_form.specs.Profile.{IsElementary};
 ghost use Rattle.ground_form.specs.Atoms.{Decides, IsPool, IsOver};
-ghost use Rattle.element_models.specs.Elements.{NoRowsWithoutArguments, tables_from};
+ghost use Rattle.element_models.specs.Elements.{tables_from};
 ghost use Rattle.element_models.specs.Filling.{AreTables, NamesPredicate};
 ghost use Rattle.element_models.specs.Rows.{rows_of};
 

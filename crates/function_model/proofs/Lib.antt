@@ -1,6 +1,13 @@
+pub mod HoldsLaws
+pub mod Induction
 pub mod Lengths
+pub mod OneTruth
 pub mod PlaceEnds
 pub mod PlaceRanks
+pub mod Projections
 pub mod RowLookups
 pub mod RowOrder
+pub mod Rows
 pub mod ShownParts
+pub mod ShownTruth
+pub mod Values

@@ -1,4 +1,7 @@
-use Rattle.std.specs.Prelude.{◌≡◌, ℕ, ◌≤◌, ◌+◌, true, List, [], ◌∷◌, ◌++◌, length, All, Contains}
+-- Which models fit a script (this project's own).
+use Rattle.std.specs.Prelude.{◌≡◌, ℕ, ◌≤◌, ◌+◌, true, List, [], ◌∷◌, ◌++◌, length, map, filter, All, Contains}
+use Rattle.std.specs.List.{AllZip}
+use Rattle.std.specs.Option.{unwrap_or}
 use Rattle.std.specs.Ordering.{is_lt, ordering_then}
 use Rattle.std.specs.declared.cmp.Ordering.{Ordering}
 use Rattle.std.specs.declared.cmp.Ordering.TheVariants.{Less, Equal, Greater}
@@ -6,17 +9,24 @@ use Rattle.mbqi_values.specs.Sum.{IsBelow}
 use Rattle.mbqi_values.specs.Value.{rank_of}
 use Rattle.mbqi_values.specs.declared.value.Value.{Value}
 use Rattle.mbqi_values.specs.declared.value.Value.TheVariants.{Num, Elem, Truth}
+use Rattle.mbqi_terms.specs.declared.arrays.ArrayPair.{ArrayPair}
+use Rattle.mbqi_terms.specs.declared.arrays.SkolemSort.{SkolemSort}
 use Rattle.mbqi_terms.specs.declared.script.Function.{Function}
 use Rattle.mbqi_terms.specs.declared.script.Script.{Script}
 use Rattle.mbqi_terms.specs.declared.sort.Sort.{Sort}
 use Rattle.mbqi_terms.specs.declared.sort.Sort.TheVariants as sort
+use Rattle.mbqi_terms.specs.declared.store.lists.Lists.{Lists}
+use Rattle.mbqi_terms.specs.declared.term.ArrayTerm.{ArrayTerm}
+use Rattle.mbqi_terms.specs.Lists.{element_sort, index_sort}
+use Rattle.mbqi_terms.specs.ScriptLists.{lists_of, skolems_of}
+use Rattle.mbqi_terms.specs.Sort.{plain_sort}
 use Rattle.function_model.specs.declared.model.FunctionModel.{FunctionModel}
 use Rattle.function_model.specs.declared.model.Row.{Row}
 use Rattle.function_model.specs.declared.model.Table.{Table}
 use Rattle.function_model.specs.declared.model.TableName.{TableName}
-use Rattle.function_model.specs.declared.model.TableName.TheVariants.{Declared, Seed, Far}
+use Rattle.function_model.specs.declared.model.TableName.TheVariants.{Declared, Skolem, Seed, Far, Diff, Default, Read, Same}
 use Rattle.function_model.specs.Holds.{IsOf}
-use Rattle.mbqi_terms.specs.Sort.{plain_sort}
+use Rattle.function_model.specs.ValueOf.{is_compound}
 
 -- A number is absolutely below 2 ^ 124; other values are as small as their sort.
 abbrev pub IsSmall : Value → Type 0
@@ -99,48 +109,83 @@ pub record FitsTable (sizes : List ℕ) (args : List Sort) (result : Sort) (tabl
   pub rows : AreRows sizes table.knots result table.rows
   pub default : IsShown sizes result table.default
 
--- The table of the declared function of a number.
-pub record FitsFunction (sizes : List ℕ) (f : ℕ) (function : Function) (table : Table) : Type 0 where
-  pub name : table.name ≡ Declared f
-  pub fits : FitsTable sizes (places_of function.args function.result) (values_of function.result) table
+-- The name of a table, with the sorts of its arguments and of its values.
+pub record Signature : Type 0 where
+  pub name : TableName
+  pub args : List Sort
+  pub result : Sort
 
--- A table for each declared function in order, from number f on.
-abbrev pub FitFunctions : List ℕ → ℕ → List Function → List Table → Type 0
-FitFunctions sizes f [] [] = Unit {0}
-FitFunctions sizes f (function ∷ functions) (table ∷ tables) =
-    FitsFunction sizes f function table × FitFunctions sizes (f + 1) functions tables
-FitFunctions sizes f [] (table ∷ tables) = ⊥
-FitFunctions sizes f (function ∷ functions) [] = ⊥
+pub record FitsSignature (sizes : List ℕ) (signature : Signature) (table : Table) : Type 0 where
+  pub name : table.name ≡ signature.name
+  pub fits : FitsTable sizes signature.args signature.result table
 
--- A shown model fits a script without Skolem symbols: a size of at least 1 for each declared sort, and a table
--- for each declared function, in order.
+-- The declared functions in order, from number f on.
+abbrev pub function_signature : ℕ → Function → Signature
+function_signature f function =
+    record { name = Declared f; args = places_of function.args function.result; result = values_of function.result }
+
+abbrev pub function_signatures : ℕ → List Function → List Signature
+function_signatures f [] = []
+function_signatures f (function ∷ functions) = function_signature f function ∷ function_signatures (f + 1) functions
+
+abbrev pub skolem_signature : SkolemSort → Signature
+skolem_signature skolem = record { name = Skolem skolem.assertion skolem.place; args = skolem.args; result = skolem.result }
+
+-- What is shown: the declared functions, and behind them the Skolem symbols by assertion and place.
+abbrev pub shown_signatures : Script → List Signature
+shown_signatures script = function_signatures 0 script.functions ++ map skolem_signature (skolems_of script)
+
+-- The seed of each declared sort in order, from number s on. The names of the sorts count them.
+abbrev pub seed_signatures : ℕ → List (List ℕ) → List Signature
+seed_signatures s [] = []
+seed_signatures s (name ∷ names) = record { name = Seed s; args = []; result = sort.Elem s } ∷ seed_signatures (s + 1) names
+
+-- The integer past which each array has its default.
+abbrev pub far_signature : Signature
+far_signature = record { name = Far; args = []; result = sort.Int }
+
+-- The sorts of an array's index and elements by the lists. An array term of a script in form has both.
+abbrev pub index_by : Lists → ArrayTerm → Sort
+index_by l a = unwrap_or (index_sort l a) sort.Int
+
+abbrev pub element_by : Lists → ArrayTerm → Sort
+element_by l a = unwrap_or (element_sort l a) sort.Int
+
+-- The index at which two arrays differ, the default of an array, the reads of a compound array term, and whether two arrays are the same.
+abbrev pub difference_signature : Lists → ArrayPair → Signature
+difference_signature l pair = record { name = Diff pair.left pair.right; args = []; result = index_by l pair.left }
+
+abbrev pub default_signature : Lists → ArrayTerm → Signature
+default_signature l a = record { name = Default a; args = []; result = element_by l a }
+
+abbrev pub read_signature : Lists → ArrayTerm → Signature
+read_signature l a = record { name = Read a; args = index_by l a ∷ []; result = element_by l a }
+
+abbrev pub sameness_signature : ArrayPair → Signature
+sameness_signature pair = record { name = Same pair.left pair.right; args = []; result = sort.Truth }
+
+-- The hidden names of arrays, kind by kind, each kind in the order of its list.
+abbrev pub array_signatures : Lists → List Signature
+array_signatures l =
+    map (difference_signature l) l.arrays.atoms ++ (map (default_signature l) l.arrays.defaults
+    ++ (map (read_signature l) (filter is_compound l.arrays.terms) ++ map sameness_signature l.arrays.atoms))
+
+-- What is hidden: the seeds, the far integer, and behind it the names of the script's arrays.
+abbrev pub hidden_signatures : Script → List Signature
+hidden_signatures script = seed_signatures 0 script.sorts ++ (far_signature ∷ array_signatures (lists_of script))
+
+-- A shown model fits a script: a size of at least 1 for each declared sort, and a table for each shown name, in order.
 pub record Fits (script : Script) (model : FunctionModel) : Type 0 where
   pub sorts : length model.sizes ≡ length script.sorts
   pub sizes : All (λ size. 1 ≤ size) model.sizes
-  pub tables : FitFunctions model.sizes 0 script.functions model.tables
+  pub tables : AllZip (FitsSignature model.sizes) (shown_signatures script) model.tables
 
--- The table of a hidden name without arguments, of this sort.
-pub record FitsHidden (sizes : List ℕ) (wanted : TableName) (result : Sort) (table : Table) : Type 0 where
-  pub name : table.name ≡ wanted
-  pub fits : FitsTable sizes [] result table
-
--- A table for the seed of each declared sort in order, from number s on, and last one for the integer past which each array has
--- its default. The names of the sorts count them.
-abbrev pub FitHidden : List ℕ → ℕ → List (List ℕ) → List Table → Type 0
-FitHidden sizes s [] [] = ⊥
-FitHidden sizes s [] (table ∷ []) = FitsHidden sizes Far sort.Int table
-FitHidden sizes s [] (table ∷ next ∷ tables) = ⊥
-FitHidden sizes s (name ∷ names) [] = ⊥
-FitHidden sizes s (name ∷ names) (table ∷ tables) =
-    FitsHidden sizes (Seed s) (sort.Elem s) table × FitHidden sizes (s + 1) names tables
-
--- A full model fits a script without Skolem symbols and arrays: it is a shown one that fits, with the tables of the hidden names
--- behind those of the declared functions.
+-- A full model fits a script: it has also a table for each hidden name, behind those of the shown ones.
 pub record FitsFull (script : Script) (model : FunctionModel) : Type 0 where
   pub sorts : length model.sizes ≡ length script.sorts
   pub sizes : All (λ size. 1 ≤ size) model.sizes
-  pub declared : List Table
-  pub hidden : List Table
-  pub tables : model.tables ≡ declared ++ hidden
-  pub functions : FitFunctions model.sizes 0 script.functions declared
-  pub names : FitHidden model.sizes 0 script.sorts hidden
+  pub tables : AllZip (FitsSignature model.sizes) (shown_signatures script ++ hidden_signatures script) model.tables
+
+-- No table without arguments has a row: its default is its value. A model text may show such rows; the models that are made have none.
+abbrev pub NoRowsWithoutArguments : FunctionModel → Type 0
+NoRowsWithoutArguments model = All (λ table. table.knots ≡ [] → table.rows ≡ []) model.tables

@@ -1,6 +1,7 @@
+-- When a formula holds or fails in a model.
 use Rattle.std.specs.Prelude.{◌≡◌, ℕ, ◌<◌, ◌==◌, Bool, true, false, not, List, [], ◌∷◌, ◌⊎◌, ⊤, Option, None, Some, if◌then◌else◌, slice_get, slice_index}
 use Rattle.std.specs.Ordering.{is_le}
-use Rattle.mbqi_values.specs.Value.{rank_of, is_same}
+use Rattle.mbqi_values.specs.Value.{rank_of, is_same, is_true}
 use Rattle.mbqi_values.specs.declared.value.Value.{Value}
 use Rattle.mbqi_values.specs.declared.value.Value.TheVariants.{Num, Elem, Truth}
 use Rattle.mbqi_terms.specs.declared.formula.Formula.{Formula, Row_of-Formula, end_of-Formula, more_of-Formula}
@@ -20,7 +21,8 @@ use Rattle.mbqi_terms.specs.declared.term.ArrayTerm.TheOpen.{ArrayTerm-F}
 use Rattle.function_model.specs.declared.model.FunctionModel.{FunctionModel}
 use Rattle.mbqi_terms.specs.Meanings.{Meanings}
 use Rattle.mbqi_terms.specs.Sort.{plain_sort}
-use Rattle.function_model.specs.ValueOf.{Point, value_of, array_of}
+use Rattle.function_model.specs.Lookup.{is_full}
+use Rattle.function_model.specs.ValueOf.{Point, value_of, array_of, sameness_in}
 
 -- The value has the sort in a universe of these sizes; all integers have the sort Int.
 abbrev pub IsOf : List ℕ → Sort → Value → Type 0
@@ -78,6 +80,11 @@ ReadAlike functions m true a b p =
 ReadAlike functions m false a b p =
     (i : Value) × IsOf m.sizes (index_sort functions a) i × (is_same ((array_of m a p).read i) ((array_of m b p).read i) ≡ false)
 
+-- Two arrays are the same at a point (`true`), or differ there (`false`): by their own table in a full model, by their reads in a shown one.
+abbrev pub Alike : Bool → List Function → FunctionModel → Bool → ArrayTerm → ArrayTerm → Point → Type 0
+Alike true gs m b s t p = sameness_in m s t ≡ Truth b
+Alike false gs m b s t p = ReadAlike gs m b s t p
+
 -- The formula holds at the point (`true`), or fails there (`false`), as SMT-LIB 2.6 (section 5.3) and its
 -- theories Core, Ints and ArraysEx say. The two are defined side by side, so that a quantifier that fails
 -- has a point at which it does. The declared functions `gs` give the sorts of arrays.
@@ -87,7 +94,7 @@ unfoldable mutual
   HoldsAt gs m b (Atom t) p = value_of m t p ≡ Truth b
   HoldsAt gs m b (Equal s t) p = is_same (value_of m s p) (value_of m t p) ≡ b
   HoldsAt gs m b (AtMost s t) p = is_le (rank_of (value_of m s p) (value_of m t p)) ≡ b
-  HoldsAt gs m b (SameArray s t) p = ReadAlike gs m b s t p
+  HoldsAt gs m b (SameArray s t) p = Alike (is_full m) gs m b s t p
   HoldsAt gs m b (Not' u (more_of-Formula f end_of-Formula)) p = HoldsAt gs m (not b) f p
   HoldsAt gs m true (All' n fs) p = EachHolds gs m true fs p
   HoldsAt gs m false (All' n fs) p = SomeHolds gs m false fs p
@@ -116,9 +123,9 @@ unfoldable mutual
 abbrev pub nowhere : Point
 nowhere place = Truth false
 
--- The values of ground terms in a model; no array equality is read.
+-- The values of ground terms in a full model, and the truths of the equalities of its arrays.
 abbrev pub values_in : FunctionModel → Meanings
-values_in model = record { value = λ t. value_of model t nowhere; same = λ a b. false }
+values_in model = record { value = λ t. value_of model t nowhere; same = λ a b. is_true (sameness_in model a b) }
 
 -- Each assertion of the script holds, over all integers and the whole universe of the model.
 abbrev pub AssertionsHold : List Function → FunctionModel → List Assertion → Type 0

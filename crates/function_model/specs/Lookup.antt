@@ -1,14 +1,18 @@
+-- What the tables of a model give.
 use Rattle.std.specs.Prelude.{ℕ, ◌==◌, Bool, true, false, ◌&&◌, List, [], ◌∷◌, Option, None, Some, if◌then◌else◌}
 use Rattle.std.specs.List.{list_any, find}
+use Rattle.std.specs.Option.{is_some}
 use Rattle.std.specs.Ordering.{is_le}
 use Rattle.mbqi_values.specs.declared.value.Value.{Value}
 use Rattle.mbqi_values.specs.declared.value.Value.TheVariants.{Num, Elem, Truth}
 use Rattle.mbqi_values.specs.Value.{is_same, rank_of}
+use Rattle.mbqi_terms.specs.SameTree.{same_array}
+use Rattle.mbqi_terms.specs.declared.term.ArrayTerm.{ArrayTerm}
 use Rattle.function_model.specs.declared.model.FunctionModel.{FunctionModel}
 use Rattle.function_model.specs.declared.model.Row.{Row}
 use Rattle.function_model.specs.declared.model.Table.{Table}
 use Rattle.function_model.specs.declared.model.TableName.{TableName}
-use Rattle.function_model.specs.declared.model.TableName.TheVariants.{Declared, Skolem, Seed, Far}
+use Rattle.function_model.specs.declared.model.TableName.TheVariants.{Declared, Skolem, Seed, Far, Diff, Default, Read, Same}
 
 -- The greatest of rising knots that isn't above the value, or `best` where there is none.
 abbrev pub greatest_up_to : Value → List Value → Value → Value
@@ -60,5 +64,30 @@ abbrev pub is_far : TableName → Bool
 is_far Far = true
 is_far other = false
 
+-- Those of arrays, by trees: the index at which two differ, the default of one, its reads, and whether two are the same.
+abbrev pub is_difference : ArrayTerm → ArrayTerm → TableName → Bool
+is_difference a b (Diff c d) = same_array a c && same_array b d
+is_difference a b other = false
+
+abbrev pub is_default : ArrayTerm → TableName → Bool
+is_default a (Default b) = same_array a b
+is_default a other = false
+
+abbrev pub is_read : ArrayTerm → TableName → Bool
+is_read a (Read b) = same_array a b
+is_read a other = false
+
+abbrev pub is_sameness : ArrayTerm → ArrayTerm → TableName → Bool
+is_sameness a b (Same c d) = same_array a c && same_array b d
+is_sameness a b other = false
+
 abbrev pub table_where : (TableName → Bool) → FunctionModel → Option Table
 table_where is_it model = find (λ table. is_it table.name) model.tables
+
+-- What a model gives for a name that it has a table of.
+abbrev pub given_by : (TableName → Bool) → FunctionModel → List Value → Value
+given_by is_it model args = looked_up (table_where is_it model) args
+
+-- A model is full exactly where it has the table of the far integer.
+abbrev pub is_full : FunctionModel → Bool
+is_full model = is_some (table_where is_far model)

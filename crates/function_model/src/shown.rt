@@ -3,7 +3,7 @@
 ghost use Rattle.std.specs.Prelude.{◌≡◌, ℕ, ◌++◌, [], ◌∷◌, if◌then◌else◌, filter, IfOk, OnOk};
 ghost use Rattle.mbqi_terms.specs.declared.script.Script.{Script};
 ghost use Rattle.function_model.specs.Fits.{Fits, FitsFull};
-ghost use Rattle.function_model.specs.Lookup.{is_declared, table_where};
+ghost use Rattle.function_model.specs.Lookup.{is_declared, is_skolem, table_where};
 ghost use Rattle.function_model.specs.Shown.{is_shown, shown_of};
 
 use crate::model::{FunctionModel, Row, Rows, Table, TableName, Tables, ValueLists};
@@ -102,4 +102,10 @@ pub fn shown_fits()
 /// The shown part has the tables of the declared functions.
 pub fn shown_has_declared()
     ensures { (model : FunctionModel) (f : ℕ) → table_where (is_declared f) (shown_of model) ≡ table_where (is_declared f) model }
+{}
+
+/// And those of the Skolem symbols.
+pub fn shown_has_skolem()
+    ensures { (model : FunctionModel) (assertion place : ℕ)
+        → table_where (is_skolem assertion place) (shown_of model) ≡ table_where (is_skolem assertion place) model }
 {}

@@ -1,5 +1,5 @@
+pub mod Carrying
 pub mod CommandForms
 pub mod Puts
 pub mod Solutions
-pub mod Solved
 pub mod TextLines

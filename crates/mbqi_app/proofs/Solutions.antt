@@ -4,7 +4,7 @@ use Rattle.mbqi_values.specs.declared.fault.Refusal.{Refusal}
 use Rattle.mbqi_terms.specs.declared.script.Script.{Script}
 use Rattle.ground_form.specs.Profile.{IsElementary}
 use Rattle.smtlib_decls.specs.Means.{Means, Refused}
-use Rattle.mbqi_app.specs.Answer.{IsOutside, IsTakenBySolve, IsRefusedBySolve}
+use Rattle.mbqi_app.specs.Statuses.{IsOutside, IsTakenBySolve, IsRefusedBySolve}
 
 module _ (not_both : (bytes : List ℕ) (script : Script) (refusal : Refusal) → Means bytes script → Refused bytes refusal → ⊥) where
   -- what means something hasn't a fault

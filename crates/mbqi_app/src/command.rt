@@ -1,7 +1,7 @@
 //! The command of the words.
 
 ghost use Rattle.std.specs.Prelude.{◌≡◌, [], ◌∷◌, None, Some, map, string_bytes, MatchOption};
-ghost use Rattle.mbqi_app.specs.Command.{asked_for, is_file};
+ghost use Rattle.mbqi_app.specs.Command.{asked_for, files_of, is_file};
 ghost use Rattle.mbqi_app.specs.Task.{command_of_task};
 
 /// What the words ask for, of the commands that are built so far.
@@ -11,6 +11,18 @@ pub enum Task<'a> {
     Solve(&'a str),
     /// `print FILE`
     Print(&'a str),
+}
+
+impl<'a> Task<'a> {
+    /// The file with the script.
+    pub fn file(self) -> &'a str
+        ensures { files_of (command_of_task self.entry) ≡ result.now ∷ [] }
+    {
+        match self {
+            Task::Solve(file) => file,
+            Task::Print(file) => file,
+        }
+    }
 }
 
 fn is_file(word: &str) -> bool

@@ -1,8 +1,9 @@
 //! The text of a shown model.
 
-ghost use Rattle.std.specs.Prelude.{◌≡◌, ◌++◌, map, OnOk, OnErr};
+ghost use Rattle.std.specs.Prelude.{◌≡◌, ◌++◌, codes, map, OnOk, OnErr};
 ghost use Rattle.std.specs.Io.{StartsWith};
 ghost use Rattle.mbqi_app.specs.ModelText.{value_text, values_text, row_text, table_text, tables_text, sort_text, sorts_text, model_text};
+ghost use Rattle.smtlib_printer.specs.Names.{name_text};
 ghost use Rattle.smtlib_printer.specs.Text.{list_text, spaced_rest};
 
 use function_model::{FunctionModel, Row, Table};
@@ -13,7 +14,7 @@ use smtlib_printer::{write_name, write_number, write_truth};
 use std::alloc::AllocError;
 
 /// Appends the lines of a shown model for its script.
-#[tactic(auto, unfolding(crate::specs::ModelText::model_text))]
+#[tactic(auto, using(smtlib_printer::proofs::Fronts::behind), unfolding(crate::specs::ModelText::model_text))]
 pub fn write_model(
     script: &Script,
     model: &FunctionModel,
@@ -70,14 +71,34 @@ fn write_table(function: &Function, table: &Table, into: &mut Vec<u8>) -> Result
     ensures ok { OnOk result (into.new.items ≡ into.old.items ++ table_text function.now table.now) }
     ensures err { OnErr result (StartsWith into.new.items into.old.items) }
 {
+    write_table_front(function.name.as_slice(), table.knots.as_slice(), into)?;
+    write_table_rest(table.rows.as_slice(), table.default, into)
+}
+
+/// The front of a table's line: the function's name, and the knots of each argument.
+#[tactic(auto, using(smtlib_printer::proofs::Fronts::behind))]
+fn write_table_front(name: &[u8], knots: &[Values], into: &mut Vec<u8>) -> Result<(), AllocError>
+    ensures ok { OnOk result (into.new.items ≡ into.old.items
+        ++ (codes "(fun " ++ name_text name.now ++ codes " " ++ list_text (map values_text knots.now))) }
+    ensures err { OnErr result (StartsWith into.new.items into.old.items) }
+{
     into.extend_from_slice(b"(fun ")?;
-    write_name(function.name.as_slice(), into)?;
+    write_name(name, into)?;
     into.extend_from_slice(b" ")?;
-    write_knots(table.knots.as_slice(), into)?;
+    write_knots(knots, into)
+}
+
+/// The rest of it: the rows and the default, each behind a blank.
+#[tactic(auto, using(smtlib_printer::proofs::Fronts::behind))]
+fn write_table_rest(rows: &[Row], default: Value, into: &mut Vec<u8>) -> Result<(), AllocError>
+    ensures ok { OnOk result (into.new.items ≡ into.old.items
+        ++ (codes " " ++ list_text (map row_text rows.now) ++ codes " " ++ value_text default ++ codes ")\n")) }
+    ensures err { OnErr result (StartsWith into.new.items into.old.items) }
+{
     into.extend_from_slice(b" ")?;
-    write_rows(table.rows.as_slice(), into)?;
+    write_rows(rows, into)?;
     into.extend_from_slice(b" ")?;
-    write_value(table.default, into)?;
+    write_value(default, into)?;
     into.extend_from_slice(b")\n")
 }
 
@@ -94,6 +115,7 @@ fn write_knots(knots: &[Values], into: &mut Vec<u8>) -> Result<(), AllocError>
 }
 
 /// The knots of further arguments, each behind a blank.
+#[tactic(auto, using(smtlib_printer::proofs::Fronts::behind))]
 fn write_more_knots(knots: &[Values], into: &mut Vec<u8>) -> Result<(), AllocError>
     ensures ok { OnOk result (into.new.items ≡ into.old.items ++ spaced_rest (map values_text knots.now)) }
     ensures err { OnErr result (StartsWith into.new.items into.old.items) }
@@ -105,6 +127,7 @@ fn write_more_knots(knots: &[Values], into: &mut Vec<u8>) -> Result<(), AllocErr
     Ok(())
 }
 
+#[tactic(auto, using(smtlib_printer::proofs::Fronts::behind))]
 fn write_rows(rows: &[Row], into: &mut Vec<u8>) -> Result<(), AllocError>
     ensures ok { OnOk result (into.new.items ≡ into.old.items ++ list_text (map row_text rows.now)) }
     ensures err { OnErr result (StartsWith into.new.items into.old.items) }
@@ -118,6 +141,7 @@ fn write_rows(rows: &[Row], into: &mut Vec<u8>) -> Result<(), AllocError>
 }
 
 /// Further rows, each behind a blank.
+#[tactic(auto, using(smtlib_printer::proofs::Fronts::behind))]
 fn write_more_rows(rows: &[Row], into: &mut Vec<u8>) -> Result<(), AllocError>
     ensures ok { OnOk result (into.new.items ≡ into.old.items ++ spaced_rest (map row_text rows.now)) }
     ensures err { OnErr result (StartsWith into.new.items into.old.items) }
@@ -129,6 +153,7 @@ fn write_more_rows(rows: &[Row], into: &mut Vec<u8>) -> Result<(), AllocError>
     Ok(())
 }
 
+#[tactic(auto, using(smtlib_printer::proofs::Fronts::behind))]
 fn write_row(row: &Row, into: &mut Vec<u8>) -> Result<(), AllocError>
     ensures ok { OnOk result (into.new.items ≡ into.old.items ++ row_text row.now) }
     ensures err { OnErr result (StartsWith into.new.items into.old.items) }
@@ -140,6 +165,7 @@ fn write_row(row: &Row, into: &mut Vec<u8>) -> Result<(), AllocError>
     into.extend_from_slice(b")")
 }
 
+#[tactic(auto, using(smtlib_printer::proofs::Fronts::behind))]
 fn write_values(values: &[Value], into: &mut Vec<u8>) -> Result<(), AllocError>
     ensures ok { OnOk result (into.new.items ≡ into.old.items ++ values_text values.now) }
     ensures err { OnErr result (StartsWith into.new.items into.old.items) }
@@ -153,6 +179,7 @@ fn write_values(values: &[Value], into: &mut Vec<u8>) -> Result<(), AllocError>
 }
 
 /// Further values, each behind a blank.
+#[tactic(auto, using(smtlib_printer::proofs::Fronts::behind))]
 fn write_more_values(values: &[Value], into: &mut Vec<u8>) -> Result<(), AllocError>
     ensures ok { OnOk result (into.new.items ≡ into.old.items ++ spaced_rest (map value_text values.now)) }
     ensures err { OnErr result (StartsWith into.new.items into.old.items) }

@@ -1,15 +1,19 @@
 //! The one call of the program.
 
-ghost use Rattle.std.specs.Prelude.{◌≡◌, ◌↔◌, ◌⊎◌, ◌<◌, ℕ, List, length, map, string_bytes, None, IsTrue};
+ghost use Rattle.std.specs.Prelude.{◌≡◌, ◌↔◌, ◌⊎◌, ◌<◌, length, map, string_bytes, None, IsTrue};
 ghost use Rattle.mbqi_edge.specs.Faults.{Rose};
-ghost use Rattle.mbqi_edge.specs.Files.{Tells};
 ghost use Rattle.mbqi_edge.specs.Told.{with_more};
-ghost use Rattle.mbqi_app.specs.Command.{asked_for};
 ghost use Rattle.mbqi_values.specs.declared.fault.Refusal.{Refusal};
-ghost use Rattle.mbqi_app.specs.Answer.{Answers, AnswersFront, AskedFront, Counts, IfScriptRefused, Of, OfTold, IsOneOfAll, TookAll, file_limit, is_answered, is_silent, names_of, Gives, GivesLong, IsTaken, IsRefusedAs, IsOneOf, IsFinished};
+ghost use Rattle.mbqi_app.specs.Answer.{Answers, AnswersFront, TookAll};
+ghost use Rattle.mbqi_app.specs.Asked.{AskedFront, Counts, names_of};
+ghost use Rattle.mbqi_app.specs.Carried.{CarriesOut, Responds};
+ghost use Rattle.mbqi_app.specs.Command.{asked_for};
+ghost use Rattle.mbqi_app.specs.Statuses.{Gives, GivesLong, IfScriptRefused, IsFinished, IsOneOf, IsOneOfAll, IsRefusedAs, IsTaken, Of, OfTold, file_limit, is_answered, is_silent};
+ghost use Rattle.mbqi_app.specs.Task.{command_of_task};
 ghost use Rattle.mbqi_app.specs.Told.{told_of, TookPart};
 
 use crate::command::{Task, task_of};
+use crate::fetch::fetch_file;
 use crate::print::print;
 use crate::solve::solve;
 use crate::tell::tell;
@@ -71,7 +75,7 @@ pub fn run<F: Shelf, W: Sink, E: Sink, L: Ledger>(
     status
 }
 
-/// The command of the words, but for the line on `err`.
+/// `run` but for the line on `err`. Each of its other clauses is a field of `CarriesOut`.
 fn carry_out<F: Shelf, W: Sink, L: Ledger>(
     alloc: Global,
     words: &[String],
@@ -79,33 +83,37 @@ fn carry_out<F: Shelf, W: Sink, L: Ledger>(
     out: &mut W,
     steps: &mut Steps<L>,
 ) -> Status
-    ensures words { (result ≡ Status.Words) ↔ (asked_for (map string_bytes words.now) ≡ None) }
-    ensures read_fault { result ≡ Status.ReadFault → Rose (F.faults shelf.old) (F.faults shelf.new) }
-    ensures too_long { result ≡ Status.TooLong
-        → OfTold (map string_bytes words.now) (F.files shelf.old) (λ bytes. file_limit < length bytes) }
-    ensures refused { IfScriptRefused result (λ refusal.
-        Of (map string_bytes words.now) (F.files shelf.old) (IsRefusedAs refusal)) }
-    ensures comes { IsOneOfAll result }
-    ensures answer { IsTrue (is_answered result) → Answers (map string_bytes words.now) (F.files shelf.old) steps.old steps.new result
-        (TookAll (W.taken out.old) (W.taken out.new)) }
-    ensures write_fault { result ≡ Status.WriteFault → Rose (W.faults out.old) (W.faults out.new)
-        × AnswersFront (map string_bytes words.now) (F.files shelf.old) steps.old steps.new (W.taken out.old) (W.taken out.new) }
-    ensures silent { IsTrue (is_silent result) → W.taken out.new ≡ W.taken out.old }
-    ensures files { F.files shelf.new ≡ F.files shelf.old }
-    ensures asked { AskedFront (F.asked shelf.old) (F.asked shelf.new) (names_of (asked_for (map string_bytes words.now))) }
-    ensures all_asked { IsTrue (is_answered result)
-        → F.asked shelf.new ≡ with_more (F.asked shelf.old) (names_of (asked_for (map string_bytes words.now))) }
-    ensures steps { Counts (asked_for (map string_bytes words.now)) result steps.old steps.new }
-    ensures complete { Gives (map string_bytes words.now) (F.files shelf.old) IsTaken
-        → IsFinished result }
-    ensures refuses { (refusal : Refusal) → Gives (map string_bytes words.now) (F.files shelf.old) (IsRefusedAs refusal)
-        → IsOneOf result (Status.ScriptRefused refusal) }
-    ensures long { GivesLong (map string_bytes words.now) (F.files shelf.old)
-        → IsOneOf result Status.TooLong }
+    ensures { CarriesOut (map string_bytes words.now)
+        (record { files = F.files shelf.old; asked = F.asked shelf.old; faults = F.faults shelf.old })
+        (record { files = F.files shelf.new; asked = F.asked shelf.new; faults = F.faults shelf.new })
+        (record { taken = W.taken out.old; faults = W.faults out.old; steps = steps.old })
+        (record { taken = W.taken out.new; faults = W.faults out.new; steps = steps.new })
+        result }
 {
-    match task_of(words) {
-        Some(Task::Solve(file)) => solve(alloc, file, shelf, out, steps),
-        Some(Task::Print(file)) => print(alloc, file, shelf, out),
-        None => Status::Words,
+    let Some(task) = task_of(words) else {
+        return Status::Words;
+    };
+    match fetch_file(alloc, task.file(), shelf) {
+        Ok(bytes) => respond(alloc, task, bytes.as_slice(), out, steps),
+        Err(status) => status,
+    }
+}
+
+/// The command of a task, for a script of these bytes.
+fn respond<W: Sink, L: Ledger>(
+    alloc: Global,
+    task: Task<'_>,
+    bytes: &[u8],
+    out: &mut W,
+    steps: &mut Steps<L>,
+) -> Status
+    ensures { Responds (command_of_task task.entry) bytes.now
+        (record { taken = W.taken out.old; faults = W.faults out.old; steps = steps.old })
+        (record { taken = W.taken out.new; faults = W.faults out.new; steps = steps.new })
+        result }
+{
+    match task {
+        Task::Solve(_) => solve(alloc, bytes, out, steps),
+        Task::Print(_) => print(alloc, bytes, out),
     }
 }

@@ -1,18 +1,18 @@
 //! `solve`: from the bytes of a script to a model, or to instances that are refuted.
 
-ghost use Rattle.std.specs.Prelude.{◌≡◌, ◌+◌, ◌++◌, ◌≤◌, ◌<◌, ◌⊎◌, ◌∷◌, [], ℕ, List, length, IfOk, OnOk, IsTrue};
+ghost use Rattle.std.specs.Prelude.{◌≡◌, ◌+◌, ◌⊎◌, ℕ, List, IfOk, OnOk, IsTrue};
 ghost use Rattle.sexpr_text.specs.Forms.{IfRefused};
 ghost use Rattle.mbqi_edge.specs.Faults.{Rose};
-ghost use Rattle.mbqi_edge.specs.Files.{Has, Tells};
-ghost use Rattle.mbqi_edge.specs.Told.{with_more};
 ghost use Rattle.mbqi_values.specs.declared.fault.Refusal.{Refusal};
-ghost use Rattle.mbqi_app.specs.Answer.{IsSolution, IsRefusedBySolve, outside, is_answered, is_silent, file_limit, IfScriptRefused, CountsSolving, Solves, SolvesFront, TookAll, TookFront, AsksOne, CountsReading, Comes, ComesFromBytes, GivesFile, IsTakenBySolve, IsOneOf, IsWritten, IsDecided, outcome_text, status_of};
+ghost use Rattle.mbqi_app.specs.Answer.{IsSolution, TookAll, TookFront, outcome_text, status_of};
+ghost use Rattle.mbqi_app.specs.Asked.{CountsReading, CountsSolving};
+ghost use Rattle.mbqi_app.specs.Statuses.{ComesFromBytes, IfScriptRefused, IsDecided, IsRefusedBySolve, IsTakenBySolve, is_answered, is_silent};
 ghost use Rattle.ground_form.specs.Profile.{IsElementary};
 ghost use Rattle.smtlib_decls.specs.Means.{Means};
 
 use crate::model_text::write_model;
 use first_profile::is_elementary;
-use mbqi_edge::{FetchFault, Shelf, Sink, put_all};
+use mbqi_edge::{Sink, put_all};
 use mbqi_loop::{Outcome, solve_rules};
 use mbqi_terms::Script;
 use mbqi_values::{FaultKind, ReadError, Refusal, Status, Steps};
@@ -21,57 +21,14 @@ use smtlib_decls::{one_script_or_refusal, read_text};
 use std::alloc::{AllocError, Global};
 use std::sync::ledger::Ledger;
 
-/// How many bytes a file may have.
-pub const FILE_LIMIT: usize = 67_108_864;
-
 /// What isn't taken yet is refused at the start.
 const OUTSIDE: Refusal = Refusal {
     at: 0,
     kind: FaultKind::Unsupported,
 };
 
-/// Fetches the file, decides its script, and writes the answer when it is whole.
-pub fn solve<F: Shelf, W: Sink, L: Ledger>(
-    alloc: Global,
-    file: &str,
-    shelf: &mut F,
-    out: &mut W,
-    steps: &mut Steps<L>,
-) -> Status
-    ensures read_fault { result ≡ Status.ReadFault → Rose (F.faults shelf.old) (F.faults shelf.new) }
-    ensures too_long { result ≡ Status.TooLong → Tells (F.files shelf.old) file.now (λ bytes. file_limit < length bytes) }
-    ensures refused { IfScriptRefused result (λ refusal. (bytes : List ℕ) × Has (F.files shelf.old) file.now bytes × IsRefusedBySolve bytes refusal) }
-    ensures answer { IsTrue (is_answered result)
-        → Solves (F.files shelf.old) file.now steps.old steps.new result (TookAll (W.taken out.old) (W.taken out.new)) }
-    ensures write_fault { result ≡ Status.WriteFault → Rose (W.faults out.old) (W.faults out.new)
-        × SolvesFront (F.files shelf.old) file.now steps.old steps.new (W.taken out.old) (W.taken out.new) }
-    ensures silent { IsTrue (is_silent result) → W.taken out.new ≡ W.taken out.old }
-    ensures comes { Comes result }
-
-    ensures files { F.files shelf.new ≡ F.files shelf.old }
-    ensures asked { AsksOne (F.asked shelf.old) (F.asked shelf.new) file.now }
-    ensures all_asked { IsTrue (is_answered result) → F.asked shelf.new ≡ with_more (F.asked shelf.old) (file.now ∷ []) }
-    ensures steps { CountsSolving result steps.old steps.new }
-
-    ensures complete { GivesFile (F.files shelf.old) file.now (λ bytes. (length bytes ≤ file_limit) × IsTakenBySolve bytes)
-        → IsDecided result }
-    ensures refuses { (refusal : Refusal)
-        → GivesFile (F.files shelf.old) file.now (λ bytes. (length bytes ≤ file_limit) × IsRefusedBySolve bytes refusal)
-        → IsOneOf result (Status.ScriptRefused refusal) }
-    ensures long { GivesFile (F.files shelf.old) file.now (λ bytes. file_limit < length bytes)
-        → IsOneOf result Status.TooLong }
-{
-    let mut bytes = Vec::new(alloc);
-    match shelf.fetch(alloc, file, FILE_LIMIT, &mut bytes) {
-        Ok(()) => write_answer(alloc, bytes.as_slice(), out, steps),
-        Err(FetchFault::Failed) => Status::ReadFault,
-        Err(FetchFault::TooLong) => Status::TooLong,
-        Err(FetchFault::Memory) => Status::Memory,
-    }
-}
-
 /// Decides the script of the bytes, and writes the answer when it is whole.
-fn write_answer<W: Sink, L: Ledger>(
+pub fn solve<W: Sink, L: Ledger>(
     alloc: Global,
     bytes: &[u8],
     out: &mut W,
@@ -86,7 +43,7 @@ fn write_answer<W: Sink, L: Ledger>(
     ensures silent { IsTrue (is_silent result) → W.taken out.new ≡ W.taken out.old }
     ensures comes { ComesFromBytes result }
     ensures steps { CountsSolving result steps.old steps.new }
-    ensures complete { IsTakenBySolve bytes.now → IsWritten result }
+    ensures complete { IsTakenBySolve bytes.now → IsDecided result }
     ensures refuses { (refusal : Refusal) → IsRefusedBySolve bytes.now refusal
         → (result ≡ Status.ScriptRefused refusal) ⊎ (result ≡ Status.Memory) }
 {

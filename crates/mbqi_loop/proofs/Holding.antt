@@ -18,10 +18,11 @@ use Rattle.mbqi_terms.specs.declared.script.Script.{Script}
 use Rattle.mbqi_terms.specs.declared.sort.Binder.{Binder}
 use Rattle.mbqi_terms.specs.declared.term.Term.{Term}
 use Rattle.function_model.specs.Fits.{Fits}
-use Rattle.function_model.specs.Holds.{ForAll, HoldsAt, SomeHolds}
+use Rattle.function_model.specs.Holds.{ForAll, HoldsAt}
 use Rattle.mbqi_terms.specs.Meanings.{Meanings, truth_layer, truth_of}
 use Rattle.function_model.specs.ValueOf.{Point, value_of}
 use Rattle.function_model.specs.declared.model.FunctionModel.{FunctionModel}
+use Rattle.function_model.proofs.HoldsLaws.{SomeOf, holds_any}
 use Rattle.ground_form.specs.Profile.{IsLiteral, IsClause}
 use Rattle.mbqi_loop.proofs.Atoms.{IsTruth, atom_value}
 use Rattle.mbqi_values.specs.Value.{is_true}
@@ -39,24 +40,9 @@ truth_not m t = search (rules, formulas.the_lemmas)
 pub truth_any : (m : Meanings) (fs : List Formula) → truth_of m (formula.Any fs) ≡ list_any (λ f. f) (map (truth_of m) fs)
 truth_any m fs = ap (truth_of m) (sym (rolls-Any fs)) ∙ fold-roll-Formula Bool (truth_layer m) (Formula-F.Any fs)
 
--- some formula of a list holds
-abbrev SomeOf : List Function → FunctionModel → Point → List Formula → Type 0
-SomeOf gs m p [] = ⊥
-SomeOf gs m p (f ∷ fs) = HoldsAt gs m true f p ⊎ SomeOf gs m p fs
-
-abbrev some_in : List Function → FunctionModel → Point → Formula → Type 0
-some_in gs m p (formula.Any' n row) = SomeHolds gs m true row p
-some_in gs m p other = ⊥
-
-some_any : (gs : List Function) (m : FunctionModel) (p : Point) (fs : List Formula) → SomeOf gs m p fs → some_in gs m p (formula.Any fs)
-unfolding HoldsAt hidden-the_row-Formula-0 hidden hidden-the_row-Formula-1
-some_any gs m p [] h = h
-some_any gs m p (f ∷ fs) (inl h) = inl h
-some_any gs m p (f ∷ fs) (inr h) = inr (some_any gs m p fs h)
-
-holds_any : (gs : List Function) (m : FunctionModel) (p : Point) (fs : List Formula) → SomeOf gs m p fs → HoldsAt gs m true (formula.Any fs) p
-unfolding HoldsAt hidden-the_row-Formula-0 hidden hidden-the_row-Formula-1
-holds_any gs m p fs h = some_any gs m p fs h
+holds_some : (gs : List Function) (m : FunctionModel) (p : Point) (fs : List Formula) → SomeOf (λ f. HoldsAt gs m true f p) fs
+    → HoldsAt gs m true (formula.Any fs) p
+holds_some gs m p fs some = subst (λ (X : Type 0). X) (sym (holds_any gs m p fs)) some
 
 -- an atom that is true holds, and the negation of one that is false
 of_true : (v : Value) → is_true v ≡ true → v ≡ Truth true
@@ -103,7 +89,7 @@ module _ (script : Script) (m : FunctionModel) (fits : Fits script m) (p : Point
   ]
 
   some_literal_holds : (fs : List Formula) → All (IsLiteral script.functions IsArg) fs
-      → list_any (λ f. f) (map (truth_of (values_at m p)) fs) ≡ true → SomeOf script.functions m p fs
+      → list_any (λ f. f) (map (truth_of (values_at m p)) fs) ≡ true → SomeOf HoldsHere fs
   some_literal_holds [] all h = cc
   some_literal_holds (f ∷ fs) all h =
       which (truth_of (values_at m p) f) (list_any (λ g. g) (map (truth_of (values_at m p)) fs)) h
@@ -113,5 +99,5 @@ module _ (script : Script) (m : FunctionModel) (fits : Fits script m) (p : Point
   pub clause_holds : (f : Formula) → IsClause script.functions IsArg f → truth_of (values_at m p) f ≡ true → HoldsHere f
   clause_holds f (inl one) h = literal_holds f one h
   clause_holds f (inr any) h =
-      subst HoldsHere (sym any.1) (holds_any script.functions m p any.0 (some_literal_holds any.0 any.2
+      subst HoldsHere (sym any.1) (holds_some script.functions m p any.0 (some_literal_holds any.0 any.2
       (sym (truth_any (values_at m p) any.0) ∙ (sym (ap (truth_of (values_at m p)) any.1) ∙ h))))

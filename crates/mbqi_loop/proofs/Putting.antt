@@ -9,7 +9,6 @@ use Rattle.mbqi_terms.specs.declared.formula.Formula.{Formula}
 use Rattle.mbqi_terms.specs.declared.formula.Formula.TheVariants as formula
 use Rattle.mbqi_terms.specs.declared.script.Function.{Function}
 use Rattle.mbqi_terms.specs.declared.term.Symbol.TheVariants as symbol
-use Rattle.mbqi_terms.specs.declared.term.Term as terms
 use Rattle.mbqi_terms.specs.declared.term.Term.{Term}
 use Rattle.mbqi_terms.specs.declared.term.Term.TheVariants as term
 use Rattle.function_model.specs.Holds.{nowhere, values_in}
@@ -20,7 +19,7 @@ use Rattle.function_model.specs.declared.model.FunctionModel.{FunctionModel}
 use Rattle.ground_form.specs.Profile.{IsArgument, IsAtom, IsClause, IsLiteral}
 use Rattle.mbqi_values.specs.Value.{is_true}
 use Rattle.rule_form.proofs.Putting.{put_any, put_apply, put_atom, put_constant, put_not, put_variable}
-use Rattle.mbqi_loop.proofs.Atoms.{value_apply}
+use Rattle.function_model.proofs.Values.{value_apply, value_variable}
 use Rattle.mbqi_loop.proofs.Holding.{truth_any, truth_atom, truth_not, values_at}
 use Rattle.mbqi_terms.specs.Substitution.{put_into, put_into_formula}
 
@@ -45,10 +44,6 @@ nothing_put = record {
   negation = λ f. refl;
   any = λ fs. ap formula.Any (itself fs);
 }
-
-value_variable : (m : FunctionModel) (p : Point) (place : ℕ) → value_of m (term.Var place) p ≡ p place
-unfolding value_of
-value_variable m p place = search (rules, terms.the_lemmas)
 
 -- the point has the values of the terms
 module _ (functions : List Function) (shown model : FunctionModel) (p : Point)

@@ -3,11 +3,10 @@
 ghost use Rattle.std.specs.Prelude.{◌≡◌, ◌++◌, [], false, List, IfOk, IfSome, IfNone};
 ghost use Rattle.std.specs.List.{list_all};
 ghost use Rattle.mbqi_terms.specs.declared.instance.InstanceLine.{InstanceLine};
-ghost use Rattle.function_model.specs.Fits.{Fits};
+ghost use Rattle.function_model.specs.Fits.{Fits, NoRowsWithoutArguments};
 ghost use Rattle.function_model.specs.Holds.{Holds};
 ghost use Rattle.function_model.specs.Shown.{shown_of};
 ghost use Rattle.mbqi_terms.specs.Meanings.{Meanings, truth_of};
-ghost use Rattle.element_models.specs.Elements.{NoRowsWithoutArguments};
 ghost use Rattle.ground_form.specs.Atoms.{IsPool, formulas_in};
 ghost use Rattle.ground_form.specs.Profile.{IsElementary};
 ghost use Rattle.mbqi_loop.specs.Journal.{IsRound, first_lines};

@@ -2,7 +2,7 @@
 //! model, or the listed instances have none.
 //!
 //! Start with [`solve_rules`] and its answer [`Outcome`]. What its journal says stands in `specs/Journal.antt`, which valuations are plainly
-//! lawful in `specs/Lawful.antt`, and when instances are refuted in `specs/Refuted.antt`.
+//! lawful in the `specs/Lawful.antt` of mbqi_terms, and when instances are refuted in `specs/Refuted.antt`.
 
 #![tactic(auto)]
 

@@ -1,8 +1,7 @@
 //! From a script to its outcome.
 
 ghost use Rattle.std.specs.Prelude.{◌≡◌, ◌+◌, ◌≤◌, ◌++◌, ◌∷◌, [], All, IfOk};
-ghost use Rattle.element_models.specs.Elements.{NoRowsWithoutArguments};
-ghost use Rattle.function_model.specs.Fits.{Fits};
+ghost use Rattle.function_model.specs.Fits.{Fits, NoRowsWithoutArguments};
 ghost use Rattle.function_model.specs.Holds.{Holds};
 ghost use Rattle.ground_form.specs.Atoms.{IsPool};
 ghost use Rattle.ground_form.specs.Profile.{IsElementary};

@@ -14,7 +14,9 @@ use Rattle.smtlib_terms.specs.declared.meaning.Side.TheVariants.{Meant}
 use Rattle.smtlib_terms.specs.declared.names.Binding.{Binding}
 use Rattle.smtlib_terms.specs.declared.word.Word.TheVariants as word
 use Rattle.smtlib_terms.specs.Names.{◌>>=◌, Signature}
+use Rattle.mbqi_terms.specs.Depth.{depth_of_term}
 use Rattle.mbqi_terms.specs.Limits.{is_within}
+use Rattle.smtlib_terms.specs.Meaning.{unless_deep}
 use Rattle.smtlib_terms.specs.Operators.{integer_meant, meant, subtraction}
 use Rattle.smtlib_terms.specs.Reading.{numeral}
 use Rattle.smtlib_terms.proofs.TermTrees.{side-Numeral, side-Symbol}
@@ -39,7 +41,7 @@ numeral_means n names scope next small =
     side-Numeral (decimal n) names scope next ∙ ap meant (numeral_read n small)
 
 negated_read : (n : ℕ) → ltb n (2 ^ 63 - 1) ≡ true → subtraction (meaning.Term sort.Int (term.Num (pos (suc n))) ∷ []) ≡ Ok (Meant (meaning.Term sort.Int (term.Num (negsuc n))))
-negated_read n within = ap (λ (t : Bool). meant (integer_meant (cond t (Ok (term.Num (negsuc n))) (Err OffsetTooWide)))) within
+negated_read n within = ap (λ (t : Bool). meant (integer_meant (cond t (Ok (term.Num (negsuc n))) (Err (unless_deep OffsetTooWide (depth_of_term (term.Num (negsuc n)))))))) within
 
 pub number_means : (n : ℤ) (names : Signature) (scope : List Binding) (next : ℕ) → is_within (2 ^ 63 - 1) n ≡ true → Means (number_tree n) names scope next (meaning.Term sort.Int (term.Num n))
 number_means (pos n) names scope next within =

@@ -30,7 +30,7 @@ use Rattle.measured_terms.proofs.SymbolLaws.{depth-Declared}
 use Rattle.measured_terms.proofs.TermLaws.{depth-Apply}
 use Rattle.mbqi_terms.specs.HasSort.{HasSortIn, HaveSortsIn, IsArrayIn, IsDeclared, IsIndexSort}
 use Rattle.mbqi_terms.specs.InForm.{IsPlaced, IsResultSort, IsVariableSort, plain_lists}
-use Rattle.smtlib_terms.specs.InForm.{HasSort, HaveSorts, IsArray}
+use Rattle.smtlib_terms.specs.InForm.{HasSort, HaveSorts}
 use Rattle.read_in_form.proofs.Placed.{AreValues, IsBelow, IsBound, IsFunction, IsMeaning, IsRead, IsReader, IsScope, IsSignature}
 use Rattle.read_in_form.proofs.NoTruths.{applied_no_truth}
 use Rattle.read_in_form.proofs.SameSorts.{same_sort}

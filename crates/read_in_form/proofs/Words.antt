@@ -18,7 +18,6 @@ use Rattle.smtlib_terms.specs.InForm.{IsFormula}
 use Rattle.read_in_form.proofs.Placed.{AreMeanings, IsMeaning}
 use Rattle.read_in_form.proofs.Steps.{stepped, not_refused, same_ok}
 use Rattle.read_in_form.proofs.Sums.{addition_placed}
-use Rattle.scripts_in_form.proofs.Placed.{IsPlaced}
 
 formula_is : (script : Script) (scope : List Binder) (next : ℕ) (r : Result Formula FaultKind) (m : Meaning) → ((f : Formula) → r ≡ Ok f → IsFormula script scope next f) → formula_meant r ≡ Ok m → IsMeaning script scope next m
 formula_is script scope next r m gives is =
@@ -37,7 +36,7 @@ narrow_is args r m is =
     let test = not_refused (list_any is_wide args) (Ok read.value) _ m read.rest in
     record { none = test.0; made = subst (λ (n : Meaning). formula_meant r ≡ Ok n) (same_ok read.value m test.1) read.first }
 
-relation_is : (script : Script) (scope : List Binder) (next : ℕ) (args : List Meaning) (r : Result Formula FaultKind) (m : Meaning) → ((f : Formula) → r ≡ Ok f → IsPlaced script scope next f) → relation_meant args r ≡ Ok m → IsMeaning script scope next m
+relation_is : (script : Script) (scope : List Binder) (next : ℕ) (args : List Meaning) (r : Result Formula FaultKind) (m : Meaning) → ((f : Formula) → r ≡ Ok f → IsFormula script scope next f) → relation_meant args r ≡ Ok m → IsMeaning script scope next m
 relation_is script scope next args r m gives is = formula_is script scope next r m gives (narrow_is args r m is).made
 
 pub relation_narrow : (w : Word) (args : List Meaning) (m : Meaning) → is_relation w ≡ true → applied w args ≡ Ok m → list_any is_wide args ≡ false

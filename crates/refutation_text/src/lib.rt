@@ -33,6 +33,7 @@ pub fn write_refutation(
 }
 
 /// Appends the instances, each with a line feed.
+#[tactic(auto, using(smtlib_printer::proofs::Fronts::behind))]
 fn write_instances(
     script: &Script,
     marks: usize,
@@ -49,6 +50,7 @@ fn write_instances(
     Ok(())
 }
 
+#[tactic(auto, using(smtlib_printer::proofs::Fronts::behind))]
 fn write_instance(
     script: &Script,
     marks: usize,

@@ -4,3 +4,4 @@ pub mod Shapes
 pub mod Wholes
 pub mod RuleInstances
 pub mod Chosen
+pub mod Rows

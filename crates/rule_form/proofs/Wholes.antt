@@ -1,5 +1,5 @@
 -- The whole instance of a formula: it is an instance, and that of a clause is the clause with its terms.
-use Rattle.std.proofs.Common.{◌≡◌, ℕ, zero, suc, ◌<◌, Bool, true, false, not, List, [], ◌∷◌, map, refl, sym, ap, subst, ◌∙◌, inl, inr, arith}
+use Rattle.std.proofs.Common.{◌≡◌, ℕ, ◌<◌, Bool, true, false, not, List, [], ◌∷◌, map, refl, sym, ap, ◌∙◌, inl, inr}
 use Rattle.std.specs.Prelude.{All}
 use Rattle.std.proofs.lemmas.List.Elements.{All-head, All-tail}
 use Rattle.mbqi_terms.specs.declared.formula.Formula.{Formula, Row_of-Formula, end_of-Formula, more_of-Formula}
@@ -12,7 +12,7 @@ use Rattle.mbqi_terms.specs.declared.sort.Binder.{Binder}
 use Rattle.mbqi_terms.specs.declared.term.Term.{Term}
 use Rattle.mbqi_terms.specs.Substitution.{put_into, put_into_formula}
 use Rattle.ground_form.specs.Profile.{IsArgument, IsClause, IsLiteral}
-use Rattle.rule_form.specs.Instance.{EachInstance, Instantiation, InstanceAt, OneInstance, below_existential, below_universal, whole, whole_each}
+use Rattle.rule_form.specs.Instance.{EachInstance, Instantiation, InstanceAt, below_existential, below_universal, whole, whole_each}
 use Rattle.rule_form.specs.Rules.{clause_at, term_at}
 use Rattle.rule_form.proofs.Putting.{alike_atom, put_any, put_atom, put_not}
 

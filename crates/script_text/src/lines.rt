@@ -14,6 +14,7 @@ use smtlib_printer::{question_marks, write_formula_with, write_name, write_sort}
 use std::alloc::AllocError;
 
 /// Appends the declarations of sorts.
+#[tactic(auto, using(smtlib_printer::proofs::Fronts::behind))]
 pub(crate) fn write_sorts(names: &[Text], into: &mut Vec<u8>) -> Result<(), AllocError>
     ensures ok { OnOk result (into.new.items ≡ into.old.items ++ flat_map sort_line names.now) }
     ensures err { OnErr result (StartsWith into.new.items into.old.items) }
@@ -35,6 +36,7 @@ fn write_sort_declaration(name: &[u8], into: &mut Vec<u8>) -> Result<(), AllocEr
 }
 
 /// Appends the declarations of functions.
+#[tactic(auto, using(smtlib_printer::proofs::Fronts::behind))]
 pub(crate) fn write_functions(
     script: &Script,
     functions: &[Function],
@@ -78,7 +80,7 @@ fn write_declared(
 }
 
 /// Appends the sorts of a function's arguments and of its result, behind a blank.
-#[tactic(auto, unfolding(crate::specs::Text::rank_text))]
+#[tactic(auto, using(smtlib_printer::proofs::Fronts::behind), unfolding(crate::specs::Text::rank_text))]
 fn write_rank(script: &Script, function: &Function, into: &mut Vec<u8>) -> Result<(), AllocError>
     ensures ok { OnOk result (into.new.items ≡ into.old.items ++ rank_text script.now function.now) }
     ensures err { OnErr result (StartsWith into.new.items into.old.items) }
@@ -90,6 +92,7 @@ fn write_rank(script: &Script, function: &Function, into: &mut Vec<u8>) -> Resul
 }
 
 /// Appends the assertions. The question marks of variables are counted once.
+#[tactic(auto, using(smtlib_printer::proofs::Fronts::behind))]
 pub(crate) fn write_assertions(
     script: &Script,
     assertions: &[Assertion],

@@ -9,6 +9,7 @@ use smtlib_printer::write_sort;
 use std::alloc::AllocError;
 
 /// Appends a list of sorts in brackets.
+#[tactic(auto, using(smtlib_printer::proofs::Fronts::behind))]
 pub(crate) fn write_sort_list(
     script: &Script,
     sorts: &[Sort],
@@ -26,6 +27,7 @@ pub(crate) fn write_sort_list(
 }
 
 /// Appends further sorts, each behind a blank.
+#[tactic(auto, using(smtlib_printer::proofs::Fronts::behind))]
 fn write_more_sorts(script: &Script, sorts: &[Sort], into: &mut Vec<u8>) -> Result<(), AllocError>
     ensures ok { OnOk result (into.new.items ≡ into.old.items ++ spaced_rest (map (sort_text script.now) sorts.now)) }
     ensures err { OnErr result (StartsWith into.new.items into.old.items) }

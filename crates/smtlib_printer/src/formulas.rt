@@ -26,16 +26,17 @@ pub fn write_formula_with(
         Formula::Equal(s, t) => write_terms(script, marks, b"=", s, t, into),
         Formula::AtMost(s, t) => write_terms(script, marks, b"<=", s, t, into),
         Formula::SameArray(a, b) => write_same_arrays(script, marks, a, b, into),
-        #[tactic(auto, using(crate::proofs::FormulaTexts::not_text))]
+        #[tactic(auto, using(crate::proofs::FormulaTexts::not_text, crate::proofs::Fronts::behind))]
         Formula::Not(f) => {
             into.extend_from_slice(b"(not ")?;
             write_formula_with(script, marks, f.get(), into)?;
             into.extend_from_slice(b")")
         }
-        #[tactic(auto, using(crate::proofs::FormulaTexts::all_text))]
+        #[tactic(auto, using(crate::proofs::FormulaTexts::all_text, crate::proofs::Fronts::behind))]
         Formula::All(fs) => write_joined(script, marks, b"and", fs.as_slice(), into),
-        #[tactic(auto, using(crate::proofs::FormulaTexts::any_text))]
+        #[tactic(auto, using(crate::proofs::FormulaTexts::any_text, crate::proofs::Fronts::behind))]
         Formula::Any(fs) => write_joined(script, marks, b"or", fs.as_slice(), into),
+        #[tactic(auto, using(crate::proofs::Fronts::behind))]
         Formula::Iff(f, g) => {
             into.extend_from_slice(b"(= ")?;
             write_formula_with(script, marks, f.get(), into)?;
@@ -43,6 +44,7 @@ pub fn write_formula_with(
             write_formula_with(script, marks, g.get(), into)?;
             into.extend_from_slice(b")")
         }
+        #[tactic(auto, using(crate::proofs::Fronts::behind))]
         Formula::Choose(c, f, g) => {
             into.extend_from_slice(b"(ite ")?;
             write_formula_with(script, marks, c.get(), into)?;
@@ -52,15 +54,16 @@ pub fn write_formula_with(
             write_formula_with(script, marks, g.get(), into)?;
             into.extend_from_slice(b")")
         }
-        #[tactic(auto, using(crate::proofs::FormulaTexts::forall_text))]
+        #[tactic(auto, using(crate::proofs::FormulaTexts::forall_text, crate::proofs::Fronts::behind))]
         Formula::Forall(bound, f) => write_bound(script, marks, b"forall", bound, f.get(), into),
-        #[tactic(auto, using(crate::proofs::FormulaTexts::exists_text))]
+        #[tactic(auto, using(crate::proofs::FormulaTexts::exists_text, crate::proofs::Fronts::behind))]
         Formula::Exists(bound, f) => write_bound(script, marks, b"exists", bound, f.get(), into),
     }
 }
 
 /// Appends a quantifier with its variables and its body.
 #[cycle(write_formula)]
+#[tactic(auto, using(crate::proofs::Fronts::behind))]
 fn write_bound(
     script: &Script,
     marks: usize,
@@ -83,6 +86,7 @@ fn write_bound(
 
 /// Appends a connective with formulas.
 #[cycle(write_formula)]
+#[tactic(auto, using(crate::proofs::Fronts::behind))]
 fn write_joined(
     script: &Script,
     marks: usize,
@@ -101,6 +105,7 @@ fn write_joined(
 
 /// Appends formulas, each behind a blank.
 #[cycle(write_formula)]
+#[tactic(auto, using(crate::proofs::Fronts::behind))]
 fn write_more_formulas(
     script: &Script,
     marks: usize,
@@ -118,6 +123,7 @@ fn write_more_formulas(
 }
 
 /// Appends a relation of two terms.
+#[tactic(auto, using(crate::proofs::Fronts::behind))]
 fn write_terms(
     script: &Script,
     marks: usize,
@@ -139,6 +145,7 @@ fn write_terms(
 }
 
 /// Appends an equality of two array terms.
+#[tactic(auto, using(crate::proofs::Fronts::behind))]
 fn write_same_arrays(
     script: &Script,
     marks: usize,

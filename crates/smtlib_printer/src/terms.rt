@@ -23,7 +23,7 @@ pub fn write_term_with(
 {
     match term {
         Term::Num(n) => write_number(*n, into),
-        #[tactic(auto, using(crate::proofs::TermTexts::plus_text))]
+        #[tactic(auto, using(crate::proofs::TermTexts::plus_text, crate::proofs::Fronts::behind))]
         Term::Plus(t, n) => {
             into.extend_from_slice(b"(+ ")?;
             write_term_with(script, marks, t.get(), into)?;
@@ -33,7 +33,7 @@ pub fn write_term_with(
         }
         Term::Var(place) => write_variable(marks, *place, into),
         Term::Truth(truth) => write_truth(*truth, into),
-        #[tactic(auto, using(crate::proofs::TermTexts::alone_text, crate::proofs::TermTexts::apply_text))]
+        #[tactic(auto, using(crate::proofs::TermTexts::alone_text, crate::proofs::TermTexts::apply_text, crate::proofs::Fronts::behind))]
         Term::Apply(symbol, args) => {
             if stands_alone(script, marks, symbol, args.as_slice()) {
                 return write_symbol(script, marks, symbol, into);
@@ -43,7 +43,7 @@ pub fn write_term_with(
             write_more_terms(script, marks, args.as_slice(), into)?;
             into.extend_from_slice(b")")
         }
-        #[tactic(auto, using(crate::proofs::TermTexts::read_text))]
+        #[tactic(auto, using(crate::proofs::TermTexts::read_text, crate::proofs::Fronts::behind))]
         Term::Read(a, i) => {
             into.extend_from_slice(b"(select ")?;
             write_array_with(script, marks, a.get(), into)?;
@@ -51,7 +51,7 @@ pub fn write_term_with(
             write_term_with(script, marks, i.get(), into)?;
             into.extend_from_slice(b")")
         }
-        #[tactic(auto, using(crate::proofs::TermTexts::default_text))]
+        #[tactic(auto, using(crate::proofs::TermTexts::default_text, crate::proofs::Fronts::behind))]
         Term::Default(a) => {
             into.extend_from_slice(b"(default ")?;
             write_array_with(script, marks, a.get(), into)?;
@@ -82,6 +82,7 @@ fn is_word(_script: &Script, _marks: usize, symbol: &Symbol) -> bool
 
 /// Appends the word of a symbol with the arguments of its own.
 #[cycle(write)]
+#[tactic(auto, using(crate::proofs::Fronts::behind))]
 fn write_symbol(
     script: &Script,
     marks: usize,
@@ -139,6 +140,7 @@ pub fn write_terms_with(
 
 /// Appends terms, each behind a blank.
 #[cycle(write)]
+#[tactic(auto, using(crate::proofs::Fronts::behind))]
 fn write_more_terms(
     script: &Script,
     marks: usize,
@@ -168,7 +170,7 @@ pub fn write_array_with(
 {
     match array {
         ArrayTerm::Name(function) => write_function_name(script, *function, into),
-        #[tactic(auto, using(crate::proofs::TermTexts::store_text))]
+        #[tactic(auto, using(crate::proofs::TermTexts::store_text, crate::proofs::Fronts::behind))]
         ArrayTerm::Store(a, i, v) => {
             into.extend_from_slice(b"(store ")?;
             write_array_with(script, marks, a.get(), into)?;
@@ -178,7 +180,7 @@ pub fn write_array_with(
             write_term_with(script, marks, v.get(), into)?;
             into.extend_from_slice(b")")
         }
-        #[tactic(auto, using(crate::proofs::TermTexts::const_text))]
+        #[tactic(auto, using(crate::proofs::TermTexts::const_text, crate::proofs::Fronts::behind))]
         ArrayTerm::Const(sort, v) => {
             into.extend_from_slice(b"((as const ")?;
             write_sort(script, *sort, into)?;
@@ -186,7 +188,7 @@ pub fn write_array_with(
             write_term_with(script, marks, v.get(), into)?;
             into.extend_from_slice(b")")
         }
-        #[tactic(auto, using(crate::proofs::TermTexts::map_is_text))]
+        #[tactic(auto, using(crate::proofs::TermTexts::map_is_text, crate::proofs::Fronts::behind))]
         ArrayTerm::Map(op, arrays) => {
             into.extend_from_slice(b"((_ map ")?;
             write_map_op(script, *op, into)?;
@@ -199,6 +201,7 @@ pub fn write_array_with(
 
 /// Appends array terms, each behind a blank.
 #[cycle(write)]
+#[tactic(auto, using(crate::proofs::Fronts::behind))]
 fn write_more_arrays(
     script: &Script,
     marks: usize,

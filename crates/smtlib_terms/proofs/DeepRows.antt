@@ -16,7 +16,9 @@ use denote.Hole.Carrier.{hidden}
 use Rattle.smtlib_terms.specs.declared.meaning.Meaning.TheVariants as meaning
 use Rattle.smtlib_terms.specs.declared.meaning.Side.TheVariants.{Meant, Difference}
 use Rattle.smtlib_terms.specs.declared.word.Word.TheVariants as word
-use Rattle.smtlib_terms.specs.Meaning.{depth_of_array, depth_of_formula, depth_of_term, variables_in, varies, varies_term}
+use Rattle.mbqi_terms.specs.Depth.{depth_of_array, depth_of_formula, depth_of_term}
+use Rattle.mbqi_terms.specs.Binders.{variables_in}
+use Rattle.mbqi_terms.specs.Varies.{varies, varies_term}
 use Rattle.smtlib_terms.specs.Names.{◌>>=◌}
 use Rattle.smtlib_terms.specs.Number.{sum_of}
 use Rattle.smtlib_terms.specs.Operators.{applied, is_wide_term, two_sides}

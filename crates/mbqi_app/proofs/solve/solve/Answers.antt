@@ -1,14 +1,28 @@
-use Rattle.std.proofs.Common.{◌≤◌, ◌∙◌, length, inl, inr}
-use Rattle.mbqi_app.specs.Answer.{IsRefusedBySolve, file_limit}
-use Rattle.mbqi_app.proofs.Solved.{fetched}
+use Rattle.std.proofs.Common.{ap, inl}
+use Rattle.mbqi_values.specs.declared.status.Status.TheVariants.{ScriptRefused}
+use Rattle.mbqi_app.proofs.Solutions.{one_way, taken}
 use Rattle.mbqi_app.proofs.solve.solve.Goals as goal
 
+-- what has an answer is taken, so it isn't refused
+pub returns-in-Ok-put_all-clause-refuses : goal.returns-in-Ok-put_all-clause-refuses
+returns-in-Ok-put_all-clause-refuses g c refusal refused =
+    let law = c.one_script_or_refusal.ensures in
+    absurd (taken law.not_both law.one_script c.args.bytes.now refusal c.in-Ok.ensures.taken refused)
+
 pub returns-in-Ok-clause-refuses : goal.returns-in-Ok-clause-refuses
-returns-in-Ok-clause-refuses g c refusal gives =
-    let found = c.in-Ok.ensures.bytes in
-    let such = fetched (g.F.Shelf.files c.args.shelf.now) c.args.file.now found.0 c.new-bytes.result.items c.as_slice.result.now
-    (λ bytes. (length bytes ≤ file_limit) × IsRefusedBySolve bytes refusal) found.3 (c.as_slice.ensures.value ∙ found.1) c.new-bytes.ensures.items gives in
-    elim (c.write_answer.ensures.refuses refusal such.1) [
-      | inl refused ↦ inl refused
-      | inr full ↦ inr (inl full)
-    ]
+returns-in-Ok-clause-refuses g c refusal refused =
+    let law = c.one_script_or_refusal.ensures in
+    absurd (taken law.not_both law.one_script c.args.bytes.now refusal c.in-Ok.ensures.taken refused)
+
+-- what is refused isn't taken, and has one refusal
+pub returns-in-Err-Refused-clause-complete : goal.returns-in-Err-Refused-clause-complete
+returns-in-Err-Refused-clause-complete g c solvable =
+    let law = c.one_script_or_refusal.ensures in
+    let found = rw c.in-Err-Refused.field-0-is at c.in-Err-Refused.ensures.refused in
+    absurd (taken law.not_both law.one_script c.args.bytes.now c.in-Err-Refused.refusal solvable found)
+
+pub returns-in-Err-Refused-clause-refuses : goal.returns-in-Err-Refused-clause-refuses
+returns-in-Err-Refused-clause-refuses g c refusal refused =
+    let law = c.one_script_or_refusal.ensures in
+    let found = rw c.in-Err-Refused.field-0-is at c.in-Err-Refused.ensures.refused in
+    inl (ap ScriptRefused (one_way law.not_both law.one_refusal c.args.bytes.now c.in-Err-Refused.refusal refusal found refused))
