@@ -1,5 +1,5 @@
 -- What an operator hands from one of its functions to the next.
-use Rattle.std.specs.Prelude.{ℤ, Bool, false, is_none, List, [], ◌∷◌, ◌++◌, Option, None, Some, Result, Ok}
+use Rattle.std.specs.Prelude.{ℤ, Bool, false, is_none, List, [], ◌∷◌, ◌++◌, Option, None, Some, Result}
 use Rattle.std.specs.Option.{option_to_list}
 use Rattle.mbqi_values.specs.declared.fault.FaultKind.{FaultKind}
 use Rattle.mbqi_terms.specs.declared.formula.Formula.{Formula}

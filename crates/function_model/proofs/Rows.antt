@@ -14,7 +14,6 @@ use Rattle.mbqi_terms.specs.declared.term.ArrayTerm as arrays
 use Rattle.mbqi_terms.specs.declared.term.ArrayTerm.{ArrayTerm}
 use Rattle.mbqi_terms.specs.declared.term.ArrayTerm.TheVariants as array
 use Rattle.mbqi_terms.specs.declared.term.Symbol as symbols
-use Rattle.mbqi_terms.specs.declared.term.Symbol.{Symbol}
 use Rattle.mbqi_terms.specs.declared.term.Symbol.TheVariants as symbol
 use Rattle.mbqi_terms.specs.declared.term.Term as terms
 use Rattle.mbqi_terms.specs.declared.term.Term.{Term}

@@ -1,17 +1,13 @@
 -- Worked rows: what the definitions over scripts, formulas and valuations give for small ones.
-use Rattle.std.proofs.Common.{◌≡◌, ◌≢◌, ℕ, ℤ, pos, negsuc, Bool, true, false, List, [], ◌∷◌, ◌⊎◌, inl, inr, None, Some, refl, sym, ap, subst, ◌∙◌, rules, arith}
+use Rattle.std.proofs.Common.{◌≡◌, ◌≢◌, ℕ, ℤ, pos, negsuc, Bool, true, false, [], ◌∷◌, ◌⊎◌, inl, inr, None, Some, refl, ap, subst, ◌∙◌, rules, arith}
 use Rattle.std.specs.Prelude.{codes}
 use Rattle.mbqi_values.specs.Value.{plus_number}
 use Rattle.mbqi_values.specs.declared.value.Value.{Value}
 use Rattle.mbqi_values.specs.declared.value.Value.TheVariants as value
-use Rattle.mbqi_terms.specs.declared.arrays.ArrayPair.{ArrayPair}
-use Rattle.mbqi_terms.specs.declared.arrays.Arrays.{Arrays}
-use Rattle.mbqi_terms.specs.declared.arrays.SkolemSort.{SkolemSort}
 use Rattle.mbqi_terms.specs.declared.formula.Formula as formulas
 use Rattle.mbqi_terms.specs.declared.formula.Formula.{Formula}
 use Rattle.mbqi_terms.specs.declared.formula.Formula.TheVariants as formula
 use Rattle.mbqi_terms.specs.declared.script.Assertion.{Assertion}
-use Rattle.mbqi_terms.specs.declared.script.Function.{Function}
 use Rattle.mbqi_terms.specs.declared.script.Script.{Script}
 use Rattle.mbqi_terms.specs.declared.sort.Binder.{Binder}
 use Rattle.mbqi_terms.specs.declared.sort.Plain.TheVariants as plain
@@ -28,12 +24,12 @@ use Rattle.mbqi_terms.specs.declared.term.Symbol.TheVariants as symbol
 use Rattle.mbqi_terms.specs.declared.term.Term as terms
 use Rattle.mbqi_terms.specs.declared.term.Term.{Term, out-Term}
 use Rattle.mbqi_terms.specs.declared.term.Term.TheVariants as term
-use Rattle.mbqi_terms.specs.Binders.{has_quantifier, skolems_at, universals_at, variables_in}
+use Rattle.mbqi_terms.specs.Binders.{skolems_at, universals_at, variables_in}
 use Rattle.mbqi_terms.specs.Lawful.{IsOfSort, IsPlainlyLawful}
 use Rattle.mbqi_terms.specs.Lists.{sort_of_term, sum_sort}
-use Rattle.mbqi_terms.specs.Meanings.{Meanings, truth_of}
-use Rattle.mbqi_terms.specs.ScriptLists.{arrays_in, arrays_in_array, arrays_in_term, arrays_of, lists_of, skolems_of}
-use Rattle.mbqi_terms.specs.Substitution.{put_into, put_into_formula}
+use Rattle.mbqi_terms.specs.Meanings.{Meanings}
+use Rattle.mbqi_terms.specs.ScriptLists.{arrays_in, arrays_in_array, arrays_in_term, arrays_of}
+use Rattle.mbqi_terms.specs.Substitution.{put_into}
 use Rattle.mbqi_terms.specs.SameTree.{same_array, same_term}
 use Rattle.mbqi_terms.specs.Varies.{hides, is_plain_array, varies}
 use Rattle.mbqi_terms.proofs.Levels.{out-apply, out-num, out-plus}

@@ -7,7 +7,6 @@ use Rattle.mbqi_values.specs.Sum.{IsBelow}
 use Rattle.mbqi_terms.specs.declared.sort.Plain.TheVariants as plain
 use Rattle.mbqi_terms.specs.declared.sort.Sort.TheVariants.{Int, Array}
 use Rattle.mbqi_terms.specs.declared.term.ArrayTerm as arrays
-use Rattle.mbqi_terms.specs.declared.term.ArrayTerm.{ArrayTerm}
 use Rattle.mbqi_terms.specs.declared.term.ArrayTerm.TheVariants.{Name}
 use Rattle.mbqi_terms.specs.declared.term.ArrayTerm.TheOpen.{Symbol-F, Term-F}
 use Rattle.mbqi_terms.specs.declared.term.Symbol.{out-Symbol}

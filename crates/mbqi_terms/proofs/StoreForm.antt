@@ -18,11 +18,11 @@ use Rattle.mbqi_terms.specs.declared.term.Symbol.{Symbol, out-Symbol}
 use Rattle.mbqi_terms.specs.declared.term.Symbol.TheVariants as symbol
 use Rattle.mbqi_terms.specs.declared.term.Term.{Term, out-Term}
 use Rattle.mbqi_terms.specs.declared.term.Term.TheVariants as term
-use Rattle.mbqi_terms.specs.Form.{FitPlaces, IsLayerInForm, IsLayerListed, IsPairListed, IsTermInForm, IsTermListed, Suits}
+use Rattle.mbqi_terms.specs.Form.{FitPlaces, IsLayerListed, IsTermInForm, IsTermListed, Suits}
 use Rattle.mbqi_terms.specs.HasSort.{HasSortIn, HaveSortsIn, IsArrayIn, AreArraysIn, IsDeclared, IsPointwise, IsSkolem, Setting}
-use Rattle.mbqi_terms.specs.Lists.{array_layer_sort, array_sort, element_sort, index_sort, mapped, result_of, sort_of_term, symbol_layer_places, symbol_layer_sort}
+use Rattle.mbqi_terms.specs.Lists.{array_layer_sort, array_sort, element_sort, index_sort, mapped, result_of, symbol_layer_places, symbol_layer_sort}
 use Rattle.mbqi_terms.specs.Sort.{element_of, index_of, plain_of, plain_sort}
-use Rattle.mbqi_terms.specs.Tree.{IsBase, IsPart, Layer}
+use Rattle.mbqi_terms.specs.Tree.{IsBase, IsPart}
 use Rattle.mbqi_terms.proofs.InForm.{by_level, numeral_in_form, suits_by, sum_in_form, variable_in_form}
 use Rattle.mbqi_terms.proofs.Sorted.{base_sort}
 use Rattle.mbqi_terms.proofs.Levels.{out-apply, out-declared, out-default, out-diff, out-far, out-num, out-plus, out-read, out-seed, out-skolem, out-truth, out-var}

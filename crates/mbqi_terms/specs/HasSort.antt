@@ -1,6 +1,6 @@
 -- Which terms, array terms and formulas without quantifiers have their sorts (this project's own profile of SMT-LIB 2.6, section 3.6): each
 -- sort, symbol and variable that they name is there, arguments have their number and sorts, and numbers are within given limits.
-use Rattle.std.specs.Prelude.{◌≡◌, ◌≢◌, ◌<◌, ℕ, ◌==◌, ℤ, pos, Bool, true, false, List, [], ◌∷◌, length, map, replicate, Option, None, Some, slice_get, if◌then◌else◌}
+use Rattle.std.specs.Prelude.{◌≡◌, ◌≢◌, ◌<◌, ℕ, ◌==◌, ℤ, pos, Bool, true, false, List, [], ◌∷◌, map, replicate, Option, None, Some, slice_get, if◌then◌else◌}
 use Rattle.mbqi_terms.specs.declared.arrays.SkolemSort.{SkolemSort}
 use Rattle.mbqi_terms.specs.declared.formula.Formula.{Formula}
 use Rattle.mbqi_terms.specs.declared.formula.Formula.TheVariants as formula

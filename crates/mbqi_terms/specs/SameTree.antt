@@ -1,5 +1,5 @@
 -- Whether two terms, or two array terms, are one tree (this project's own). Each is a fold of the first tree into a test of the second.
-use Rattle.std.specs.Prelude.{ℕ, ◌==◌, ◌&&◌, Bool, true, false, if◌then◌else◌, not, List, [], ◌∷◌}
+use Rattle.std.specs.Prelude.{◌==◌, ◌&&◌, Bool, true, false, if◌then◌else◌, not, List, [], ◌∷◌}
 use Rattle.std.specs.Ordering.{int_cmp, is_eq}
 use Rattle.mbqi_terms.specs.declared.arrays.ArrayPair.{ArrayPair}
 use Rattle.mbqi_terms.specs.declared.term.ArrayTerm.{ArrayTerm, out-ArrayTerm}

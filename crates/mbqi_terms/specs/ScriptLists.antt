@@ -2,7 +2,6 @@
 -- (this project's own).
 use Rattle.std.specs.Prelude.{ℕ, ◌+◌, Bool, true, List, [], ◌∷◌, ◌++◌, map, if◌then◌else◌}
 use Rattle.std.specs.List.{fold, list_any}
-use Rattle.mbqi_terms.specs.declared.arrays.ArrayPair.{ArrayPair}
 use Rattle.mbqi_terms.specs.declared.arrays.Arrays.{Arrays}
 use Rattle.mbqi_terms.specs.declared.arrays.SkolemSort.{SkolemSort}
 use Rattle.mbqi_terms.specs.declared.formula.Formula.{Formula}

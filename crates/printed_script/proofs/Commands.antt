@@ -30,7 +30,7 @@ use Rattle.smtlib_terms.specs.declared.meaning.Meaning.TheVariants as meaning
 use Rattle.smtlib_terms.specs.declared.word.Word.TheVariants as word
 use Rattle.smtlib_terms.specs.declared.meaning.Side.{Side}
 use Rattle.mbqi_terms.specs.Depth.{depth_of_formula}
-use Rattle.smtlib_terms.specs.Declaring.{declarations_of, formula_read, sort_read, term_read}
+use Rattle.smtlib_terms.specs.Declaring.{declarations_of, sort_read, term_read}
 use Rattle.smtlib_terms.specs.Names.{◌>>=◌}
 use Rattle.smtlib_terms.specs.Operators.{meant, plainly}
 use Rattle.smtlib_terms.specs.Reading.{is_list, trees_in}

@@ -1,5 +1,5 @@
 -- What a vector begins with after want of memory.
-use Rattle.std.proofs.Common.{◌≡◌, List, ℕ, [], ◌∷◌, ◌++◌, Result, Ok, Err, OnErr, length, take, refl, append_assoc, ◌∙◌}
+use Rattle.std.proofs.Common.{◌≡◌, List, ℕ, [], ◌∷◌, ◌++◌, Result, Ok, Err, OnErr, length, take, refl, ◌∙◌}
 
 -- The last call's vector begins with what that call was handed, which has what was held before in front.
 front_of_front : (new mid old rest : List ℕ) → take (length mid) new ≡ mid → mid ≡ old ++ rest → take (length old) new ≡ old
