@@ -96,7 +96,7 @@ fn is_up_to_at(row: &Row, place: usize, bound: Value) -> bool
 }
 
 /// Where an argument goes among its rising knots, as [`crate::projected`] says, by binary search.
-pub fn projected_by_halves(knots: &[Value], value: Value) -> Value
+fn projected_by_halves(knots: &[Value], value: Value) -> Value
     requires { KnotsRise knots.now }
     ensures { result ≡ projected knots.now value }
 {

@@ -6,11 +6,10 @@ ghost use Rattle.mbqi_terms.specs.declared.term.Term.{out-Term};
 ghost use Rattle.mbqi_terms.specs.Tree.{IsBase};
 ghost use Rattle.function_model.specs.Evaluable.{IsEvaluable, IsEvaluableFormula};
 ghost use Rattle.function_model.specs.Fits.{IsSmall};
-ghost use Rattle.function_model.specs.Sound.{IsSound};
 
 use crate::soundness::are_small;
 use crate::value_tests::unary;
-use crate::{FunctionModel, Rows, Table, TableName, Tables, ValueLists};
+use crate::{FunctionModel, Tables};
 use mbqi_terms::{ArrayTerm, Binder, Binders, Formula, Sort, Symbol, Term, Terms};
 use mbqi_values::{Sizes, Value, Values};
 use sqlite_items::Boxed;
@@ -20,12 +19,6 @@ fn variable(place: usize) -> Term
     ensures { IsEvaluable result }
 {
     Term::Var(place)
-}
-
-fn constant(alloc: Global, function: usize) -> Term
-    ensures { IsEvaluable result }
-{
-    Term::Apply(Symbol::Declared(function), Terms::new(alloc))
 }
 
 fn call(alloc: Global, function: usize, arg: Term) -> Result<Term, AllocError>
@@ -55,17 +48,6 @@ fn read(alloc: Global, array: usize, index: Term) -> Result<Term, AllocError>
     Ok(Term::Read(array, Boxed::new(alloc, index)?))
 }
 
-/// The variable of place 0.
-fn one_binder(alloc: Global) -> Result<Binders, AllocError> {
-    Binders::from_slice(
-        alloc,
-        &[Binder {
-            place: 0,
-            sort: Sort::Int,
-        }],
-    )
-}
-
 /// Whether all numbers are small, as those of a point have to be.
 fn make_point(values: &[Value]) -> bool
     ensures { IsTrue result → All IsSmall values.now }
@@ -73,193 +55,140 @@ fn make_point(values: &[Value]) -> bool
     are_small(values)
 }
 
-/// The value at a point of small numbers.
-fn value_at(
+fn binder(place: usize) -> Binder {
+    Binder {
+        place,
+        sort: Sort::Int,
+    }
+}
+
+/// Whether the term has the value where the variable of place 0 has the other one.
+fn is_worth(
     alloc: Global,
     model: &FunctionModel,
     t: &Term,
-    binders: &Binders,
-    values: &[Value],
-) -> Result<Option<Value>, AllocError>
-    requires sound { IsSound model.now }
-    requires term { IsEvaluable t.now }
+    x: i128,
+    value: i128,
+) -> Result<bool, AllocError>
+    requires { IsEvaluable t.now }
 {
-    let point = Values::from_slice(alloc, values)?;
-    if !make_point(point.as_slice()) {
-        return Ok(None);
+    let binders = Binders::from_slice(alloc, &[binder(0)])?;
+    let point = Values::from_slice(alloc, &[Value::Num(x)])?;
+    if !model.is_sound() || !make_point(point.as_slice()) {
+        return Ok(false);
     }
-    Ok(Some(model.eval_term(t, binders, &point)))
+    Ok(model.eval_term(t, &binders, &point) == Value::Num(value))
 }
 
-/// A model of tables alone.
-fn model_of(alloc: Global, tables: Tables) -> FunctionModel {
-    FunctionModel {
-        sizes: Sizes::new(alloc),
-        tables,
-    }
-}
-
-/// Knots 0, 1, 2, and 1, 2, 0 there.
-fn next_of_three(alloc: Global) -> Result<Table, AllocError> {
+/// The function, or the array, that has 1, 2, 0 at 0, 1, 2.
+fn next_of_three(alloc: Global) -> Result<FunctionModel, AllocError> {
     let knots = [Value::Num(0), Value::Num(1), Value::Num(2)];
     let rows = [
         (Value::Num(0), Value::Num(1)),
         (Value::Num(1), Value::Num(2)),
         (Value::Num(2), Value::Num(0)),
     ];
-    unary(alloc, 0, &knots, &rows, Value::Num(0))
+    model_of(alloc, &knots, &rows, Value::Num(0))
+}
+
+/// A model of one table.
+fn model_of(
+    alloc: Global,
+    knots: &[Value],
+    rows: &[(Value, Value)],
+    default: Value,
+) -> Result<FunctionModel, AllocError> {
+    let mut tables = Tables::new(alloc);
+    tables.push(unary(alloc, 0, knots, rows, default)?)?;
+    Ok(FunctionModel {
+        sizes: Sizes::new(alloc),
+        tables,
+    })
+}
+
+/// `f(f(x) + 1)`
+fn sum_in_a_call(alloc: Global) -> Result<Term, AllocError>
+    ensures { IfOk result IsEvaluable }
+{
+    let inner = call(alloc, 0, variable(0))?;
+    let more = sum(alloc, inner, 1)?;
+    call(alloc, 0, more)
 }
 
 #[test]
 fn sum_inside_an_application(rt: HostRuntime) -> Result<(), AllocError> {
-    let alloc = rt.alloc();
-    let mut tables = Tables::new(alloc);
-    tables.push(next_of_three(alloc)?)?;
-    let model = model_of(alloc, tables);
-    assert!(rt; model.is_sound());
-    let inner = call(alloc, 0, variable(0))?;
-    let more = sum(alloc, inner, 1)?;
-    let t = call(alloc, 0, more)?;
-    let binders = one_binder(alloc)?;
+    let model = next_of_three(rt.alloc())?;
+    let t = sum_in_a_call(rt.alloc())?;
     for (x, value) in [(0, 0), (1, 0), (2, 2)] {
-        let found = value_at(alloc, &model, &t, &binders, &[Value::Num(x)])?;
-        assert!(rt; found == Some(Value::Num(value)), "at {x}");
+        assert!(rt; is_worth(rt.alloc(), &model, &t, x, value)?, "at {x}");
     }
     Ok(())
 }
 
 #[test]
-fn array_is_read_as_a_function(rt: HostRuntime) -> Result<(), AllocError> {
-    let alloc = rt.alloc();
-    let mut tables = Tables::new(alloc);
-    tables.push(next_of_three(alloc)?)?;
-    let model = model_of(alloc, tables);
-    assert!(rt; model.is_sound());
-    let t = read(alloc, 0, variable(0))?;
-    let binders = one_binder(alloc)?;
+fn array_is_read_as_a_function_is_called(rt: HostRuntime) -> Result<(), AllocError> {
+    let model = next_of_three(rt.alloc())?;
+    let t = read(rt.alloc(), 0, variable(0))?;
     for (x, value) in [(-7, 1), (0, 1), (1, 2), (2, 0), (9, 0)] {
-        let found = value_at(alloc, &model, &t, &binders, &[Value::Num(x)])?;
-        assert!(rt; found == Some(Value::Num(value)), "at {x}");
+        assert!(rt; is_worth(rt.alloc(), &model, &t, x, value)?, "at {x}");
     }
     Ok(())
 }
 
-/// The predicate of an integer from 5 on, and a constant that is true.
-fn predicates(alloc: Global) -> Result<FunctionModel, AllocError> {
-    let knots = [Value::Num(0), Value::Num(5)];
-    let rows = [(Value::Num(5), Value::Truth(true))];
-    let mut tables = Tables::new(alloc);
-    tables.push(unary(alloc, 0, &knots, &rows, Value::Truth(false))?)?;
-    tables.push(Table {
-        name: TableName::Declared(1),
-        knots: ValueLists::new(alloc),
-        rows: Rows::new(alloc),
-        default: Value::Truth(true),
-    })?;
-    Ok(model_of(alloc, tables))
-}
-
-fn boxed(alloc: Global, f: Formula) -> Result<Boxed<Formula>, AllocError>
-    requires { IsEvaluableFormula f }
-    ensures { IfOk result IsEvaluableFormula }
-{
-    Boxed::new(alloc, f)
-}
-
-fn equal(left: Term, right: Term) -> Formula
-    requires left { IsEvaluable left }
-    requires right { IsEvaluable right }
-    ensures { IsEvaluableFormula result }
-{
-    Formula::Equal(left, right)
-}
-
-fn at_most(left: Term, limit: i128) -> Formula
-    requires { IsEvaluable left }
-    ensures { IsEvaluableFormula result }
-{
-    Formula::AtMost(left, Term::Num(limit))
-}
-
-fn atom(t: Term) -> Formula
-    requires { IsEvaluable t }
-    ensures { IsEvaluableFormula result }
-{
-    Formula::Atom(t)
-}
-
-fn choice(
-    alloc: Global,
-    condition: Formula,
-    yes: Formula,
-    no: Formula,
-) -> Result<Formula, AllocError>
-    requires condition { IsEvaluableFormula condition }
-    requires yes { IsEvaluableFormula yes }
-    requires no { IsEvaluableFormula no }
-    ensures { IfOk result IsEvaluableFormula }
-{
-    let condition = boxed(alloc, condition)?;
-    let yes = boxed(alloc, yes)?;
-    Ok(Formula::Choose(condition, yes, boxed(alloc, no)?))
-}
-
-/// The truth at a point of small numbers.
-fn truth_at(
+/// Whether the formula is true where the variables of the places 3 and 1 have these values, in this order.
+fn is_true(
     alloc: Global,
     model: &FunctionModel,
     f: &Formula,
-    binders: &Binders,
-    values: &[Value],
-) -> Result<Option<bool>, AllocError>
-    requires sound { IsSound model.now }
-    requires formula { IsEvaluableFormula f.now }
+    x: i128,
+    y: i128,
+) -> Result<bool, AllocError>
+    requires { IsEvaluableFormula f.now }
 {
-    let point = Values::from_slice(alloc, values)?;
-    if !make_point(point.as_slice()) {
-        return Ok(None);
+    let binders = Binders::from_slice(alloc, &[binder(3), binder(1)])?;
+    let point = Values::from_slice(alloc, &[Value::Num(x), Value::Num(y)])?;
+    if !model.is_sound() || !make_point(point.as_slice()) {
+        return Ok(false);
     }
-    Ok(Some(model.eval_ground(f, binders, &point)))
+    Ok(model.eval_ground(f, &binders, &point))
 }
 
-/// The variables of places 3 and 1, in this order.
-fn two_binders(alloc: Global) -> Result<Binders, AllocError> {
-    let first = Binder {
-        place: 3,
-        sort: Sort::Int,
-    };
-    let second = Binder {
-        place: 1,
-        sort: Sort::Int,
-    };
-    Binders::from_slice(alloc, &[first, second])
+/// The variables are the same.
+fn equal_variables() -> Formula
+    ensures { IsEvaluableFormula result }
+{
+    Formula::Equal(variable(3), variable(1))
 }
 
 #[test]
-fn each_part_of_a_choice_decides(rt: HostRuntime) -> Result<(), AllocError> {
-    let alloc = rt.alloc();
-    let model = predicates(alloc)?;
-    assert!(rt; model.is_sound());
-    let yes = atom(call(alloc, 0, variable(3))?);
-    let f = choice(
-        alloc,
-        equal(variable(3), variable(1)),
-        yes,
-        at_most(variable(3), 3),
-    )?;
-    let binders = two_binders(alloc)?;
-    for (x, y, truth) in [(5, 5, true), (4, 4, false), (2, 7, true), (4, 1, false)] {
-        let found = truth_at(
-            alloc,
-            &model,
-            &f,
-            &binders,
-            &[Value::Num(x), Value::Num(y)],
-        )?;
-        assert!(rt; found == Some(truth), "at {x} {y}");
+fn variables_have_the_values_of_their_places(rt: HostRuntime) -> Result<(), AllocError> {
+    let model = next_of_three(rt.alloc())?;
+    let f = equal_variables();
+    for (x, y, truth) in [(5, 5, true), (4, 1, false), (3, 1, false), (-1, -1, true)] {
+        assert!(rt;
+            is_true(rt.alloc(), &model, &f, x, y)? == truth,
+            "at {x} {y}"
+        );
     }
-    let always = atom(constant(alloc, 1));
-    let found = truth_at(alloc, &model, &always, &Binders::new(alloc), &[])?;
-    assert!(rt; found == Some(true), "the constant");
+    Ok(())
+}
+
+/// The first variable is at most 3.
+fn at_most_three() -> Formula
+    ensures { IsEvaluableFormula result }
+{
+    Formula::AtMost(variable(3), Term::Num(3))
+}
+
+#[test]
+fn comparison_with_a_numeral(rt: HostRuntime) -> Result<(), AllocError> {
+    let model = next_of_three(rt.alloc())?;
+    let f = at_most_three();
+    for (x, y, truth) in [(2, 7, true), (3, 0, true), (4, 1, false)] {
+        assert!(rt;
+            is_true(rt.alloc(), &model, &f, x, y)? == truth,
+            "at {x} {y}"
+        );
+    }
     Ok(())
 }

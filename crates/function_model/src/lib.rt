@@ -20,7 +20,6 @@ mod sound;
 mod soundness;
 mod tabled;
 
-pub use by_halves::projected_by_halves;
 pub use evaluable::form_is_evaluable;
 pub use laws::{full_by_far, number_goes_to_greatest, one_truth, shown_keeps_truth};
 pub use look_up::projected;

@@ -50,7 +50,7 @@ value_of_id-value_of_head-base-requires t c =
             (
               subst (All (λ (arg : TermId). arg.0 < length s.nodes)) items c.node-node.ensures.form.stored,
               subst (All (λ (arg : TermId). IsEvaluable (stored_tree s arg))) items
-              (node_args s c.args.id node tree shape c.in_default.not-Zero c.requires.term),
+                  (node_args s c.args.id node tree shape c.in_default.not-Zero c.requires.term),
             ),
           ),
         ),
