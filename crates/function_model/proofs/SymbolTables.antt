@@ -129,3 +129,5 @@ module _ (m : FunctionModel) (f : ℕ) (sound : IsSound m) where
 
   pub other_at_number : (table : Table) → slice_get m.tables f ≡ Some table → is_declared f table.name ≡ false → None ≡ table_where (is_declared f) m
   other_at_number table e other = sym (declared_at f m sound ∙ (ap (checked f) e ∙ ap (λ b. if b then Some table else None) other))
+
+pub ruleset at_number_laws = (none_at_number, own_at_number, other_at_number)

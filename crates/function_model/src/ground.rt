@@ -154,7 +154,8 @@ fn rank_at(
     requires left { IsEvaluable left.now }
     requires right { IsEvaluable right.now }
     requires point { All IsSmall point.now }
-    ensures { result ≡ rank_of (value_of model.now left.now (point_of binders.now point.now)) (value_of model.now right.now (point_of binders.now point.now)) }
+    ensures { result ≡ rank_of (value_of model.now left.now (point_of binders.now point.now))
+        (value_of model.now right.now (point_of binders.now point.now)) }
 {
     let value = value_at(model, left, binders, point);
     value.rank(&value_at(model, right, binders, point))

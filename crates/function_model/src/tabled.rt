@@ -47,7 +47,7 @@ impl FunctionModel {
     }
 
     /// The table of a declared function, which stands at its number.
-    #[tactic(auto, using(crate::proofs::SymbolTables::none_at_number, crate::proofs::SymbolTables::own_at_number, crate::proofs::SymbolTables::other_at_number))]
+    #[tactic(auto, using(crate::proofs::SymbolTables::at_number_laws))]
     pub(crate) fn declared_table(&self, function: usize) -> Option<&Table>
         requires { IsSound self.now }
         ensures { option_copied result ≡ table_where (is_declared function) self.now }
