@@ -115,22 +115,44 @@ fn sum_in_a_call(alloc: Global) -> Result<Term, AllocError>
     call(alloc, 0, more)
 }
 
-#[test]
-fn sum_inside_an_application(rt: HostRuntime) -> Result<(), AllocError> {
-    let model = next_of_three(rt.alloc())?;
-    let t = sum_in_a_call(rt.alloc())?;
-    for (x, value) in [(0, 0), (1, 0), (2, 2)] {
-        assert!(rt; is_worth(rt.alloc(), &model, &t, x, value)?, "at {x}");
+/// `f(f(x) + 1)`, and the read of the array at `x`.
+fn term(alloc: Global, number: usize) -> Result<Term, AllocError>
+    ensures { IfOk result IsEvaluable }
+{
+    match number {
+        0 => sum_in_a_call(alloc),
+        _ => read(alloc, 0, variable(0)),
     }
-    Ok(())
+}
+
+fn gives(
+    alloc: Global,
+    model: &FunctionModel,
+    number: usize,
+    x: i128,
+    value: i128,
+) -> Result<bool, AllocError> {
+    let t = term(alloc, number)?;
+    is_worth(alloc, model, &t, x, value)
 }
 
 #[test]
-fn array_is_read_as_a_function_is_called(rt: HostRuntime) -> Result<(), AllocError> {
+fn sum_inside_an_application_and_read_of_an_array(rt: HostRuntime) -> Result<(), AllocError> {
     let model = next_of_three(rt.alloc())?;
-    let t = read(rt.alloc(), 0, variable(0))?;
-    for (x, value) in [(-7, 1), (0, 1), (1, 2), (2, 0), (9, 0)] {
-        assert!(rt; is_worth(rt.alloc(), &model, &t, x, value)?, "at {x}");
+    for (number, x, value) in [
+        (0, 0, 0),
+        (0, 1, 0),
+        (0, 2, 2),
+        (1, -7, 1),
+        (1, 0, 1),
+        (1, 1, 2),
+        (1, 2, 0),
+        (1, 9, 0),
+    ] {
+        assert!(rt;
+            gives(rt.alloc(), &model, number, x, value)?,
+            "term {number} at {x}"
+        );
     }
     Ok(())
 }
@@ -160,19 +182,6 @@ fn equal_variables() -> Formula
     Formula::Equal(variable(3), variable(1))
 }
 
-#[test]
-fn variables_have_the_values_of_their_places(rt: HostRuntime) -> Result<(), AllocError> {
-    let model = next_of_three(rt.alloc())?;
-    let f = equal_variables();
-    for (x, y, truth) in [(5, 5, true), (4, 1, false), (3, 1, false), (-1, -1, true)] {
-        assert!(rt;
-            is_true(rt.alloc(), &model, &f, x, y)? == truth,
-            "at {x} {y}"
-        );
-    }
-    Ok(())
-}
-
 /// The first variable is at most 3.
 fn at_most_three() -> Formula
     ensures { IsEvaluableFormula result }
@@ -180,14 +189,35 @@ fn at_most_three() -> Formula
     Formula::AtMost(variable(3), Term::Num(3))
 }
 
+/// Whether the truth is that of the formula of a number, where the variables have these values.
+fn decides(
+    alloc: Global,
+    model: &FunctionModel,
+    number: usize,
+    values: (i128, i128),
+    truth: bool,
+) -> Result<bool, AllocError> {
+    let f = match number {
+        0 => equal_variables(),
+        _ => at_most_three(),
+    };
+    Ok(is_true(alloc, model, &f, values.0, values.1)? == truth)
+}
+
 #[test]
-fn comparison_with_a_numeral(rt: HostRuntime) -> Result<(), AllocError> {
+fn variables_have_the_values_of_their_places(rt: HostRuntime) -> Result<(), AllocError> {
     let model = next_of_three(rt.alloc())?;
-    let f = at_most_three();
-    for (x, y, truth) in [(2, 7, true), (3, 0, true), (4, 1, false)] {
+    for (number, x, y, truth) in [
+        (0, 5, 5, true),
+        (0, 4, 1, false),
+        (0, 3, 1, false),
+        (1, 2, 7, true),
+        (1, 3, 0, true),
+        (1, 4, 1, false),
+    ] {
         assert!(rt;
-            is_true(rt.alloc(), &model, &f, x, y)? == truth,
-            "at {x} {y}"
+            decides(rt.alloc(), &model, number, (x, y), truth)?,
+            "formula {number} at {x} {y}"
         );
     }
     Ok(())
