@@ -1,4 +1,4 @@
-use Rattle.std.proofs.Common.{ℕ, zero, suc, ◌≡◌, ◌<◌, Bool, true, false, not, cond, ◌==◌, if◌then◌else◌, List, [], ◌∷◌, length, filter, find, set, replicate, All, Contains, Option, None, Some, is_none, is_some, refl, sym, ap, ◌∙◌, subst, ⊎_elim, eqb, eq-eqb}
+use Rattle.std.proofs.Common.{ℕ, zero, suc, ◌≡◌, ◌<◌, Bool, true, false, not, cond, ◌==◌, List, [], ◌∷◌, filter, find, set, All, Contains, Option, None, Some, refl, sym, ap, ◌∙◌, subst, ⊎_elim, eqb, eq-eqb}
 use Rattle.std.specs.List.{list_any, list_all}
 use Rattle.std.proofs.lemmas.Bool.{cases_eq, ne_eqb, and_parts, and_from, or_parts, false≢true}
 use Rattle.std.proofs.lemmas.List.Folds.{list_all-append}
@@ -6,7 +6,7 @@ use Rattle.std.proofs.lemmas.List.Elements.{All-head, All-tail, All-contains}
 use Rattle.mbqi_values.specs.declared.lit.Lit.{Lit}
 use Rattle.mbqi_values.specs.Clauses.{AreBelow}
 use Rattle.theory_search.specs.Course.{no_truths}
-use Rattle.theory_search.specs.Resolvent.{contains_lit, without, missing_in, resolvent_of, resolved_by}
+use Rattle.theory_search.specs.Resolvent.{contains_lit, without, missing_in, resolvent_of}
 use Rattle.theory_search.specs.Truths.{atom_on, lit_on, is_true, is_false, is_free, true_on, false_on}
 use Rattle.theory_search.proofs.TruthsAt.{lit_on-set_other, lit_on-kept, atom_on-free, some-from_false}
 

@@ -1,13 +1,13 @@
-use Rattle.std.proofs.Common.{ℕ, ◌≡◌, ◌+◌, ◌<◌, ◌≤◌, Bool, true, false, not, if◌then◌else◌, List, [], ◌∷◌, ◌++◌, length, set, All, Contains, Option, None, Some, is_some, refl, sym, ap, ◌∙◌, subst, ⊎_elim, eqb, arith, length-replicate, get_or-set_same, get_or-set_other}
-use Rattle.std.proofs.lemmas.Bool.{cases_eq, ne_eqb, and_from, not_from_false, false≢true}
-use Rattle.std.proofs.lemmas.List.{length-set}
+use Rattle.std.proofs.Common.{ℕ, ◌≡◌, ◌+◌, ◌<◌, ◌≤◌, Bool, true, false, not, if◌then◌else◌, List, [], ◌∷◌, ◌++◌, length, All, Option, None, Some, is_some, refl, sym, ap, ◌∙◌, subst, eqb, arith, get_or-set_same}
+use Rattle.std.proofs.lemmas.Bool.{ne_eqb, and_from, not_from_false, false≢true}
+use Rattle.std.proofs.lemmas.List.{length-replicate, length-set}
 use Rattle.std.proofs.lemmas.List.Elements.{All-nil, All-cons}
 use Rattle.mbqi_values.specs.declared.lit.Lit.{Lit}
 use Rattle.theory_trait.specs.Content.{AtomsDiffer, IsFree}
 use Rattle.theory_search.specs.Course.{lits_of, no_truths, truths_after, with_lit, AreFresh}
 use Rattle.theory_search.specs.Truths.{atom_on, lit_on, is_true, free_count}
 use Rattle.theory_search.specs.declared.step.Step.{Step}
-use Rattle.theory_search.proofs.TruthsAt.{atom_on-kept, free_count-none, free_count-set, lit_on-free, lit_on-set_same, atom_on-some, some-from_true}
+use Rattle.theory_search.proofs.TruthsAt.{atom_on-kept, free_count-none, free_count-set, lit_on-free}
 
 -- Steps that each give a truth to an atom that was free.
 

@@ -1,6 +1,6 @@
-use Rattle.std.proofs.Common.{ℕ, ◌≡◌, ◌<◌, ◌⊎◌, inl, inr, replicate, Bool, true, false, not, cond, ◌==◌, if◌then◌else◌, List, [], ◌∷◌, ◌++◌, length, set, map, Contains, Option, None, Some, is_some, IfSome, IfNone, refl, sym, ap, ◌∙◌, subst, ⊎_elim, eqb, eq-eqb}
+use Rattle.std.proofs.Common.{ℕ, ◌≡◌, ◌<◌, ◌⊎◌, inl, inr, Bool, true, false, not, cond, ◌==◌, if◌then◌else◌, List, [], ◌∷◌, ◌++◌, length, set, Contains, Option, Some, refl, sym, ap, ◌∙◌, subst, ⊎_elim, eqb, eq-eqb}
 use Rattle.std.specs.List.{list_any}
-use Rattle.std.proofs.lemmas.Bool.{cases_eq, ne_eqb, eqb-true, and_parts, and_from, or_cases, or_left, or_right, cases_Bool, false≢true, not-true}
+use Rattle.std.proofs.lemmas.Bool.{cases_eq, ne_eqb, eqb-true, and_parts, or_cases, or_left, or_right, cases_Bool, false≢true, not-true}
 use Rattle.std.proofs.lemmas.List.Folds.{list_any-append}
 use Rattle.std.proofs.lemmas.List.Recursion.{and_at}
 use Rattle.mbqi_values.specs.declared.lit.Lit.{Lit}
@@ -10,7 +10,7 @@ use Rattle.theory_search.specs.Following.{Follows, HasNoModel, IsConflict}
 use Rattle.theory_search.specs.Standing.{Implies}
 use Rattle.theory_search.specs.declared.step.Reason.{Reason}
 use Rattle.theory_search.specs.Resolvent.{same_lit, contains_lit, without, missing_in, resolvent_of, resolved_by}
-use Rattle.theory_search.specs.Truths.{atom_on, lit_on, is_true, is_false, true_on, false_on}
+use Rattle.theory_search.specs.Truths.{lit_on, is_true, is_false, false_on}
 use Rattle.theory_search.proofs.TruthsAt.{lit_on-set_same}
 use Rattle.theory_search.proofs.FalseClauses.{false_on-none, false_on-resolvent, false_on-unmentioned}
 use Rattle.mbqi_values.specs.Clauses.{lit_true, clause_true, all_true}

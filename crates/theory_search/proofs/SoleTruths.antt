@@ -1,10 +1,9 @@
-use Rattle.std.proofs.Common.{ℕ, zero, suc, ◌≡◌, ◌==◌, ◌&&◌, ◌||◌, Bool, true, false, not, cond, if◌then◌else◌, List, [], ◌∷◌, ◌++◌, find, take, Option, None, Some, refl, sym, ap, ◌∙◌, subst, ⊎_elim, eqb, eq-eqb}
+use Rattle.std.proofs.Common.{ℕ, zero, suc, ◌≡◌, ◌==◌, ◌&&◌, ◌||◌, Bool, true, false, not, cond, List, [], ◌∷◌, ◌++◌, find, take, None, Some, refl, sym, ap, ◌∙◌, subst, ⊎_elim, eqb, eq-eqb}
 use Rattle.std.specs.List.{list_all, list_any}
-use Rattle.std.proofs.lemmas.Bool.{and_from, and_left, and_parts, and_right, cases_Bool, eqb-true, false≢true, not-true, not_from_false, or_cases, or_left, or_right}
+use Rattle.std.proofs.lemmas.Bool.{and_from, and_parts, cases_Bool, eqb-true, false≢true, not-true, not_from_false, or_cases, or_left, or_right}
 use Rattle.std.proofs.lemmas.List.Folds.{list_all-append}
 use Rattle.mbqi_values.specs.Clauses.{lit_true}
 use Rattle.mbqi_values.specs.declared.lit.Lit.{Lit}
-use Rattle.mbqi_values.specs.declared.value.Value.{Value}
 use Rattle.theory_trait.specs.Free.{IsFreelyLawful}
 use Rattle.theory_trait.specs.Valuation.{lits_true, HasNone, HasValuation}
 use Rattle.theory_search.specs.AtMostOne.{at_most_one, IsLawful}

@@ -1,8 +1,9 @@
-use Rattle.std.proofs.Common.{ℕ, zero, suc, ◌≡◌, ◌+◌, ◌<◌, Bool, true, false, not, if◌then◌else◌, List, [], ◌∷◌, length, set, replicate, Option, None, Some, is_none, is_some, refl, sym, ap, ◌∙◌, ⊎_elim, arith, get_or-set_same, get_or-set_other}
+use Rattle.std.proofs.Common.{ℕ, ◌≡◌, ◌+◌, ◌<◌, Bool, true, false, not, if◌then◌else◌, List, length, set, Option, None, Some, is_none, is_some, refl, sym, ap, ◌∙◌, ⊎_elim, arith, get_or-set_same, get_or-set_other}
 use Rattle.std.specs.Option.{option_map}
 use Rattle.std.proofs.lemmas.Bool.{cases_eq, false≢true}
 use Rattle.std.proofs.lemmas.List.{set-set, set-get_or}
-use Rattle.std.proofs.lemmas.List.Sums.{sum_by-set, sum_by-replicate}
+use Rattle.std.proofs.lemmas.List.Folds.{sum_by-replicate}
+use Rattle.std.proofs.lemmas.List.Sums.{sum_by-set}
 use Rattle.mbqi_values.specs.declared.lit.Lit.{Lit}
 use Rattle.theory_search.specs.Course.{no_truths}
 use Rattle.theory_search.specs.Truths.{atom_on, lit_on, is_true, is_false, is_free, free_count}

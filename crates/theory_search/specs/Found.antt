@@ -1,4 +1,4 @@
-use Rattle.std.specs.Prelude.{◌≡◌, ℕ, List, All, Any, Contains}
+use Rattle.std.specs.Prelude.{◌≡◌, List, All, Any, Contains}
 use Rattle.mbqi_values.specs.declared.lit.Lit.{Lit}
 
 -- What a trail gives (Davis, Logemann and Loveland 1962): the literals that are true.

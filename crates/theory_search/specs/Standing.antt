@@ -3,8 +3,8 @@ use Rattle.std.specs.List.{list_all}
 use Rattle.mbqi_values.specs.declared.lit.Lit.{Lit}
 use Rattle.mbqi_values.specs.declared.value.Value.{Value}
 use Rattle.theory_trait.specs.declared.theory.Theory.{Ghosts}
-use Rattle.theory_search.specs.Course.{Course, choices_from, is_chosen, lits_of, no_truths, reason_lits, truths_of, with_lit, IsNumbered}
-use Rattle.theory_search.specs.Following.{Follows, IsConflict}
+use Rattle.theory_search.specs.Course.{Course, choices_from, is_chosen, lits_of, no_truths, reason_lits, with_lit, IsNumbered}
+use Rattle.theory_search.specs.Following.{Follows}
 use Rattle.theory_search.specs.Resolvent.{negation}
 use Rattle.theory_search.specs.Truths.{decided_on, false_on, true_on}
 use Rattle.theory_search.specs.declared.step.Reason.{Reason}

@@ -1,4 +1,4 @@
-use Rattle.std.proofs.Common.{◌≤◌, ◌+◌, length, arith}
+use Rattle.std.proofs.Common.{◌+◌, length, arith}
 use Rattle.std.proofs.lemmas.List.{length_push}
 use Rattle.theory_trait.proofs.Contents.{freely_true, AtomsDiffer-push}
 use Rattle.theory_trait.proofs.Opened.{RiseFrom-higher}

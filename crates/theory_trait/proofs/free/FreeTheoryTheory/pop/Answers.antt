@@ -1,4 +1,4 @@
-use Rattle.std.proofs.Common.{◌≤◌, List, ℕ, length, subst, arith}
+use Rattle.std.proofs.Common.{List, ℕ, length, subst, arith}
 use Rattle.std.proofs.lemmas.List.{length-take-le}
 use Rattle.theory_trait.specs.Frames.{RiseFrom}
 use Rattle.theory_trait.proofs.Contents.{AtomsDiffer-take}

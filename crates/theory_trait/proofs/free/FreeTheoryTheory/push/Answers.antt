@@ -1,4 +1,4 @@
-use Rattle.std.proofs.Common.{◌≡◌, length, sym, ◌∙◌, arith}
+use Rattle.std.proofs.Common.{◌≡◌, length, arith}
 use Rattle.theory_trait.proofs.Opened.{RiseFrom-push}
 use Rattle.theory_trait.proofs.free.FreeTheoryTheory.push.Goals as goal
 
