@@ -86,7 +86,7 @@ none_at (suc atoms) zero = refl
 none_at (suc atoms) (suc atom) = none_at atoms atom
 
 true-is : (yes : Bool) (truth : Option Bool) → is_true (option_map (λ u. if yes then u else not u) truth) ≡ true → truth ≡ Some yes
-true-is yes None is = cc
+true-is sign None is = cc
 true-is true (Some true) is = refl
 true-is true (Some false) is = cc
 true-is false (Some true) is = cc
@@ -107,8 +107,8 @@ MakesTrue-trail trail (lit ∷ clause) fresh is =
 -- The literal that gives an atom its truth.
 given_literal : (trail : Course) (atom : ℕ) (truth : Option Bool) → AreFresh (no_truths trail.atoms) trail.steps → atom_on (truths_of trail) atom ≡ truth → is_some truth ≡ true → Any (λ given. given.atom ≡ atom) (lits_of trail.steps)
 given_literal trail atom None fresh is some = absurd (cc)
-given_literal trail atom (Some yes) fresh is some =
-    let lit : Lit = record { atom = atom; yes = yes } in
+given_literal trail atom (Some truth) fresh is some =
+    let lit : Lit = record { atom = atom; yes = truth } in
     let member = on_trail (no_truths trail.atoms) trail.steps lit fresh (none_at trail.atoms atom) is in
     (member.0, lit, member.1, member.2, refl)
 

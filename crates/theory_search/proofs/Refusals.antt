@@ -39,7 +39,7 @@ IsLemma-negations lawful lits none values v law = negations_true v lits (none va
 
 -- Each is false where its literal is true.
 opposite : (yes : Bool) (truth : Option Bool) → is_true (option_map (λ u. if yes then u else not u) truth) ≡ true → is_false (option_map (λ u. if not yes then u else not u) truth) ≡ true
-opposite yes None is = cc
+opposite sign None is = cc
 opposite true (Some true) is = refl
 opposite true (Some false) is = cc
 opposite false (Some true) is = cc

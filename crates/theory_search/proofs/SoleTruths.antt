@@ -62,8 +62,8 @@ hold_by_trues v all (lit ∷ lits) hold_all hold among =
     let parts = and_parts (lit_true v lit) (lits_true v lits) hold in
     let here : lit_true (trues_of all) lit ≡ true =
         (elim lit.yes as (λ yes. lit.yes ≡ yes → cond yes (v lit.atom) (not (v lit.atom)) ≡ true → cond yes (trues_of all lit.atom) (not (trues_of all lit.atom)) ≡ true) [
-          | true ↦ λ yes _. among lit.atom (or_left (lit.yes && eqb lit.atom lit.atom) (trues_of lits lit.atom) (and_from _ _ yes (eq-eqb lit.atom lit.atom refl)))
-          | false ↦ λ no false_. not_from_false (trues_of all lit.atom) (⊎_elim
+          | true ↦ λ holds _. among lit.atom (or_left (lit.yes && eqb lit.atom lit.atom) (trues_of lits lit.atom) (and_from _ _ holds (eq-eqb lit.atom lit.atom refl)))
+          | false ↦ λ _ false_. not_from_false (trues_of all lit.atom) (⊎_elim
               (λ (holds : trues_of all lit.atom ≡ true). absurd (false≢true (sym (not-true (v lit.atom) false_) ∙ true_by v all lit.atom hold_all holds)))
               (λ (fails : trues_of all lit.atom ≡ false). fails)
               (cases_Bool (trues_of all lit.atom)))
@@ -77,11 +77,11 @@ has_sole atoms lits one has =
 
 -- One more literal keeps that, if it takes its atom as false, or none took it as true.
 pub one_more_false : (lits : List Lit) (lit : Lit) → lit.yes ≡ false → at_most_one lits ≡ true → at_most_one (lits ++ lit ∷ []) ≡ true
-one_more_false [] lit no one = rw no refl
-one_more_false (l ∷ lits) lit no one =
+one_more_false [] lit fails one = rw fails refl
+one_more_false (l ∷ lits) lit fails one =
     (elim l.yes as (λ yes. cond yes (list_all (λ (other : Lit). not other.yes) lits) (at_most_one lits) ≡ true → cond yes (list_all (λ (other : Lit). not other.yes) (lits ++ lit ∷ [])) (at_most_one (lits ++ lit ∷ [])) ≡ true) [
-      | true ↦ λ none. list_all-append (λ (other : Lit). not other.yes) lits (lit ∷ []) ∙ and_from _ _ none (and_from _ _ (not_from_false lit.yes no) refl)
-      | false ↦ λ rest. one_more_false lits lit no rest
+      | true ↦ λ none. list_all-append (λ (other : Lit). not other.yes) lits (lit ∷ []) ∙ and_from _ _ none (and_from _ _ (not_from_false lit.yes fails) refl)
+      | false ↦ λ rest. one_more_false lits lit fails rest
     ]) one
 
 pub first_true : (lits : List Lit) (lit : Lit) → find (λ l. l.yes) lits ≡ None → at_most_one (lits ++ lit ∷ []) ≡ true
@@ -113,8 +113,8 @@ pub found_among : (lits : List Lit) (found : Lit) → find (λ l. l.yes) lits �
 found_among [] found is = absurd (cc)
 found_among (lit ∷ lits) found is =
     (elim lit.yes as (λ yes. lit.yes ≡ yes → cond yes (Some lit) (find (λ (x : Lit). x.yes) lits) ≡ Some found → (contains_lit (lit ∷ lits) found ≡ true) × (found.yes ≡ true)) [
-      | true ↦ λ yes h. (let same : lit ≡ found = cc in (or_left (same_lit lit found) (contains_lit lits found) (subst (λ (x : Lit). same_lit lit x ≡ true) same (same_lit-same lit)), subst (λ (x : Lit). x.yes ≡ true) same yes))
-      | false ↦ λ no h. (let rest = found_among lits found h in (or_right (same_lit lit found) (contains_lit lits found) rest.0, rest.1))
+      | true ↦ λ holds h. (let same : lit ≡ found = cc in (or_left (same_lit lit found) (contains_lit lits found) (subst (λ (x : Lit). same_lit lit x ≡ true) same (same_lit-same lit)), subst (λ (x : Lit). x.yes ≡ true) same holds))
+      | false ↦ λ _ h. (let rest = found_among lits found h in (or_right (same_lit lit found) (contains_lit lits found) rest.0, rest.1))
     ]) refl is
 
 -- Two such literals of different atoms have no lawful valuation.
@@ -135,8 +135,8 @@ contains_true v (l ∷ lits) lit member hold =
 
 -- A test that can't be true is false.
 refuted : (b : Bool) → (b ≡ true → ⊥) → b ≡ false
-refuted true no = absurd (no refl)
-refuted false no = refl
+refuted true never = absurd (never refl)
+refuted false never = refl
 
 pub pair_has_none : (atoms : ℕ) (one other : Lit) → one.yes ≡ true → other.yes ≡ true → eqb one.atom other.atom ≡ false → HasNone (IsLawful atoms) (one ∷ other ∷ [])
 pair_has_none atoms one other yes_one yes_other differ values v law =
