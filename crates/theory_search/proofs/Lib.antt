@@ -1,12 +1,16 @@
 pub mod Choices
+pub mod Conflicts
+pub mod Endings
 pub mod FalseClauses
 pub mod FreshSteps
 pub mod Fullness
+pub mod Growth
 pub mod Ranks
 pub mod Refusals
 pub mod Resolution
 pub mod SoleTruths
 pub mod SoundSteps
 pub mod Standings
+pub mod TrailSteps
 pub mod TruthsAt
 pub mod UnitClauses

@@ -2,7 +2,7 @@
 //! becomes a clause, the negation of what `clash` lends.
 
 ghost use Rattle.std.specs.Prelude.{◌≡◌, ◌<◌, false, true, None, Some, length, is_some, IfOk, OnErr, IfSome, IfNone, OnSome};
-ghost use Rattle.theory_search.specs.Course.{lits_of, truths_of, with_lit, with_step, Extends};
+ghost use Rattle.theory_search.specs.Course.{is_chosen, lits_of, truths_of, with_lit, with_step, Extends};
 ghost use Rattle.theory_search.specs.Following.{IsConflict, IsLemma};
 ghost use Rattle.theory_search.specs.Standing.{Implies, IsOpen, IsSound, Stands};
 ghost use Rattle.theory_search.specs.Truths.{atom_on, false_on};
@@ -68,6 +68,7 @@ pub(crate) fn imply<T: Theory>(
     requires within { lit.atom < trail.old.atoms }
     requires free { atom_on (truths_of trail.old) lit.atom ≡ None }
     requires implied { Implies (T.lawful (T.problem theory.old)) clauses.now (truths_of trail.old) lit reason }
+    requires reason { is_chosen reason ≡ false }
     ensures problem { T.problem theory.new ≡ T.problem theory.old }
     ensures stands { Stands T.Theory theory.new trail.new }
     ensures sound { IsSound (T.lawful (T.problem theory.old)) clauses.now trail.new }

@@ -51,10 +51,15 @@ pub(crate) fn resolvent(
     Ok(Lits::from_vec(lits))
 }
 
+fn negated(alloc: Global, lits: &[Lit]) -> Result<Vec<Lit>, AllocError>
+    ensures { IfOk result (λ negated. negated.items ≡ map negation lits.now) }
+{
+    lits.iter().map(|lit| lit.negated()).collect(alloc)
+}
+
 /// The clause that is false exactly where each of the literals is true.
 pub(crate) fn negations(alloc: Global, lits: &[Lit]) -> Result<Lits, AllocError>
     ensures { IfOk result (λ clause. clause ≡ map negation lits.now) }
 {
-    let clause = lits.iter().map(|lit| lit.negated()).collect(alloc)?;
-    Ok(Lits::from_vec(clause))
+    Ok(Lits::from_vec(negated(alloc, lits)?))
 }

@@ -18,6 +18,12 @@ pub(crate) struct Trail {
     steps: Vec<Step>,
 }
 
+fn lits_of(alloc: Global, steps: &[Step]) -> Result<Vec<Lit>, AllocError>
+    ensures { IfOk result (λ lits. lits.items ≡ lits_of steps.now) }
+{
+    steps.iter().map(|step| step.lit).collect(alloc)
+}
+
 impl Model for Trail {
     ghost use Rattle.std.specs.Prelude.{◌≡◌, ◌≤◌, vec_capacity, vec_len};
     ghost use Rattle.theory_search.specs.Course.{no_truths, truths_after, AreFresh, Course};
@@ -91,7 +97,6 @@ impl Trail {
     pub(crate) fn lits(&self, alloc: Global) -> Result<Lits, AllocError>
         ensures { IfOk result (λ lits. lits ≡ lits_of self.now.steps) }
     {
-        let lits = self.steps.iter().map(|step| step.lit).collect(alloc)?;
-        Ok(Lits::from_vec(lits))
+        Ok(Lits::from_vec(lits_of(alloc, self.steps.as_slice())?))
     }
 }
