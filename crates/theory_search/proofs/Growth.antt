@@ -1,4 +1,4 @@
-use Rattle.std.proofs.Common.{ℕ, ◌≡◌, ◌+◌, ◌<◌, ◌≤◌, Bool, true, false, List, [], ◌∷◌, ◌++◌, length, Option, None, Some, is_some, refl, sym, ap, ◌∙◌, subst, arith, append_assoc, append-nil, length-append, get_or-set_same}
+use Rattle.std.proofs.Common.{ℕ, ◌≡◌, ◌+◌, ◌<◌, ◌≤◌, Bool, true, false, List, [], ◌∷◌, ◌++◌, length, Option, None, Some, Result, Ok, Err, IfOk, IfNone, is_some, refl, sym, ap, ◌∙◌, subst, arith, append_assoc, append-nil, length-append, get_or-set_same}
 use Rattle.std.proofs.lemmas.List.{length_push}
 use Rattle.mbqi_values.specs.declared.lit.Lit.{Lit}
 use Rattle.mbqi_values.specs.declared.value.Value.{Value}
@@ -82,3 +82,9 @@ rank-rises old front new last turned reason atoms steps same room chosen implied
     let moved : rank_from old.atoms (old.steps ++ rest) < rank_from front.atoms (front.steps ++ next ∷ []) =
         subst (λ (n : ℕ). rank_from n (old.steps ++ rest) < rank_from front.atoms (front.steps ++ next ∷ [])) atoms (subst (λ (ss : List Step). rank_from front.atoms ss < rank_from front.atoms (front.steps ++ next ∷ [])) (sym before) rises) in
     subst (λ (t : Course). rank_of (record old { steps = old.steps ++ rest }) < rank_of t) (sym same) moved
+
+pub decided_by_step : {E : Type 0} (result : Result (Option (List Lit)) E) (old new : Course) (lit : Lit) (reason : Reason) (atom : ℕ) → lit.atom ≡ atom → lit.atom < old.atoms → IfOk result (λ conflict. IfNone conflict (new ≡ with_step old lit reason)) → IfOk result (λ conflict. IfNone conflict (is_some (atom_on (truths_of new) atom) ≡ true))
+decided_by_step (Ok None) old new lit reason atom same within added =
+    subst (λ (a : ℕ). is_some (atom_on (truths_of new) a) ≡ true) same (step_decides old new lit reason added within)
+decided_by_step (Ok (Some conflict)) old new lit reason atom same within added = tt
+decided_by_step (Err error) old new lit reason atom same within added = tt

@@ -5,6 +5,7 @@ pub mod FalseClauses
 pub mod FreshSteps
 pub mod Fullness
 pub mod Growth
+pub mod Members
 pub mod Ranks
 pub mod Refusals
 pub mod Resolution

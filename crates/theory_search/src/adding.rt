@@ -71,11 +71,11 @@ pub(crate) fn imply<T: Theory>(
     requires reason { is_chosen reason ≡ false }
     ensures problem { T.problem theory.new ≡ T.problem theory.old }
     ensures stands { Stands T.Theory theory.new trail.new }
-    ensures sound { IsSound (T.lawful (T.problem theory.old)) clauses.now trail.new }
+    ensures sound { IsSound (T.lawful (T.problem theory.new)) clauses.now trail.new }
     ensures added { IfOk result (λ conflict. IfNone conflict (trail.new ≡ with_step trail.old lit reason)) }
     ensures kept { IfOk result (λ conflict. OnSome conflict (trail.new ≡ trail.old)) }
     ensures extends { Extends trail.old trail.new }
-    ensures conflict { IfOk result (λ conflict. IfSome conflict (IsConflict (T.lawful (T.problem theory.old)) clauses.now (truths_of trail.old))) }
+    ensures conflict { IfOk result (λ conflict. IfSome conflict (IsConflict (T.lawful (T.problem theory.new)) clauses.now (truths_of trail.new))) }
 {
     trail.is_fresh();
     match theory.assume(lit) {
@@ -102,7 +102,7 @@ fn try_choice<T: Theory>(
     ensures added { IfOk result (λ refusal. IfNone refusal (trail.new ≡ with_step trail.old lit Chosen)) }
     ensures kept { IfOk result (λ refusal. OnSome refusal (trail.new ≡ trail.old)) }
     ensures err { OnErr result (trail.new ≡ trail.old) }
-    ensures lemma { IfOk result (λ refusal. IfSome refusal (IsLemma (T.lawful (T.problem theory.old)))) }
+    ensures lemma { IfOk result (λ refusal. IfSome refusal (IsLemma (T.lawful (T.problem theory.new)))) }
     ensures is_false { IfOk result (λ refusal. IfSome refusal (λ clause. false_on (with_lit (truths_of trail.old) lit) clause ≡ true)) }
 {
     trail.is_fresh();
@@ -135,11 +135,11 @@ pub(crate) fn choose<T: Theory>(
     requires free { atom_on (truths_of trail.old) lit.atom ≡ None }
     ensures problem { T.problem theory.new ≡ T.problem theory.old }
     ensures stands { Stands T.Theory theory.new trail.new }
-    ensures sound { IsSound (T.lawful (T.problem theory.old)) clauses.now trail.new }
+    ensures sound { IsSound (T.lawful (T.problem theory.new)) clauses.now trail.new }
     ensures extends { Extends trail.old trail.new }
     ensures more { IfOk result (λ conflict. IfNone conflict (length trail.old.steps < length trail.new.steps)) }
     ensures decided { IfOk result (λ conflict. IfNone conflict (is_some (atom_on (truths_of trail.new) lit.atom) ≡ true)) }
-    ensures conflict { IfOk result (λ conflict. IfSome conflict (IsConflict (T.lawful (T.problem theory.old)) clauses.now (truths_of trail.new))) }
+    ensures conflict { IfOk result (λ conflict. IfSome conflict (IsConflict (T.lawful (T.problem theory.new)) clauses.now (truths_of trail.new))) }
 {
     let Some(refusal) = try_choice(alloc, theory, trail, lit)? else {
         return Ok(None);

@@ -58,10 +58,10 @@ fn turn<T: Theory>(
     requires conflict { IsConflict (T.lawful (T.problem theory.old)) clauses.now (with_lit (truths_of trail.old) lit) conflict }
     ensures problem { T.problem theory.new ≡ T.problem theory.old }
     ensures stands { Stands T.Theory theory.new trail.new }
-    ensures sound { IsSound (T.lawful (T.problem theory.old)) clauses.now trail.new }
+    ensures sound { IsSound (T.lawful (T.problem theory.new)) clauses.now trail.new }
     ensures turned { IfOk result (λ next. IfNone next (trail.new ≡ with_step trail.old (negation lit) (Derived conflict))) }
     ensures kept { IfOk result (λ next. OnSome next (trail.new ≡ trail.old)) }
-    ensures conflict { IfOk result (λ next. IfSome next (IsConflict (T.lawful (T.problem theory.old)) clauses.now (truths_of trail.old))) }
+    ensures conflict { IfOk result (λ next. IfSome next (IsConflict (T.lawful (T.problem theory.new)) clauses.now (truths_of trail.new))) }
 {
     if !mentions(conflict.as_slice(), lit.atom) {
         return Ok(Some(conflict));
@@ -92,11 +92,11 @@ fn undo_last<T: Theory>(
     ensures problem { T.problem theory.new ≡ T.problem theory.old }
     ensures atoms { trail.new.atoms ≡ trail.old.atoms }
     ensures covers { Covers T.Theory theory.new trail.new }
-    ensures sound { IsSound (T.lawful (T.problem theory.old)) clauses.now trail.new }
+    ensures sound { IsSound (T.lawful (T.problem theory.new)) clauses.now trail.new }
     ensures turned { IfOk result (λ next. IfNone next (Stands T.Theory theory.new trail.new)) }
     ensures rises { IfOk result (λ next. IfNone next ((rest : List Step) → rank_of (record trail.old { steps = trail.old.steps ++ rest }) < rank_of trail.new)) }
     ensures front { IfOk result (λ next. OnSome next ((last : Step) × (trail.old.steps ≡ trail.new.steps ++ last ∷ []))) }
-    ensures conflict { IfOk result (λ next. IfSome next (IsConflict (T.lawful (T.problem theory.old)) clauses.now (truths_of trail.new))) }
+    ensures conflict { IfOk result (λ next. IfSome next (IsConflict (T.lawful (T.problem theory.new)) clauses.now (truths_of trail.new))) }
 {
     let step = trail.take_last().unwrap();
     if step.reason.is_chosen() {
@@ -121,10 +121,10 @@ pub(crate) fn go_back<T: Theory>(
     ensures problem { T.problem theory.new ≡ T.problem theory.old }
     ensures atoms { trail.new.atoms ≡ trail.old.atoms }
     ensures covers { Covers T.Theory theory.new trail.new }
-    ensures sound { IsSound (T.lawful (T.problem theory.old)) clauses.now trail.new }
+    ensures sound { IsSound (T.lawful (T.problem theory.new)) clauses.now trail.new }
     ensures turned { IfOk result (λ turned. OnTrue turned (Stands T.Theory theory.new trail.new)) }
     ensures rises { IfOk result (λ turned. OnTrue turned (rank_of trail.old < rank_of trail.new)) }
-    ensures none { IfOk result (λ turned. OnFalse turned (HasNoModel (T.lawful (T.problem theory.old)) clauses.now)) }
+    ensures none { IfOk result (λ turned. OnFalse turned (HasNoModel (T.lawful (T.problem theory.new)) clauses.now)) }
 {
     let mut conflict = conflict;
     'back: while trail.len() > 0 {

@@ -116,12 +116,12 @@ fn take_turn<T: Theory>(
     ensures problem { T.problem theory.new ≡ T.problem theory.old }
     ensures atoms { trail.new.atoms ≡ trail.old.atoms }
     ensures covers { Covers T.Theory theory.new trail.new }
-    ensures sound { IsSound (T.lawful (T.problem theory.old)) clauses.now trail.new }
+    ensures sound { IsSound (T.lawful (T.problem theory.new)) clauses.now trail.new }
     ensures full { IfOk result (λ turn. OnFull turn (IsFull clauses.now (truths_of trail.new))) }
     ensures full_stands { IfOk result (λ turn. OnFull turn (Stands T.Theory theory.new trail.new)) }
     ensures stands { IfOk result (λ turn. OnTurned turn (Stands T.Theory theory.new trail.new)) }
     ensures rises { IfOk result (λ turn. OnTurned turn (rank_of trail.old < rank_of trail.new)) }
-    ensures none { IfOk result (λ turn. OnEnded turn (HasNoModel (T.lawful (T.problem theory.old)) clauses.now)) }
+    ensures none { IfOk result (λ turn. OnEnded turn (HasNoModel (T.lawful (T.problem theory.new)) clauses.now)) }
 {
     match advance(alloc, clauses, theory, trail)? {
         Advanced::Full => Ok(Turn::Full),
@@ -150,7 +150,7 @@ fn run<T: Theory>(
     ensures covers { Covers T.Theory theory.new trail.new }
     ensures full { IfOk result (λ full. OnTrue full (IsFull clauses.now (truths_of trail.new))) }
     ensures stands { IfOk result (λ full. OnTrue full (Stands T.Theory theory.new trail.new)) }
-    ensures none { IfOk result (λ full. OnFalse full (HasNoModel (T.lawful (T.problem theory.old)) clauses.now)) }
+    ensures none { IfOk result (λ full. OnFalse full (HasNoModel (T.lawful (T.problem theory.new)) clauses.now)) }
 {
     'turns: loop {
         match take_turn(alloc, clauses, theory, trail)? {
@@ -177,7 +177,7 @@ fn search_from<T: Theory>(
     ensures once { IfFound result AtomsDiffer }
     ensures all { IfFound result (λ found. All (GivesAtoms found) clauses.now) }
     ensures model { IfFound result (λ found. All (MakesTrue found) clauses.now) }
-    ensures none { OnClosed result (HasNoModel (T.lawful (T.problem theory.old)) clauses.now) }
+    ensures none { OnClosed result (HasNoModel (T.lawful (T.problem theory.new)) clauses.now) }
 {
     if !run(alloc, clauses, theory, trail)? {
         return Ok(Searched::Closed);

@@ -13,8 +13,8 @@ invariant-back g l =
       atoms : l.trail.atoms ≡ l.fn.trail.atoms;
       front : (rest : List Step) × (l.fn.trail.steps ≡ l.trail.steps ++ rest);
       covers : Covers theory l.theory l.trail;
-      sound : IsSound (theory.lawful (theory.problem l.fn.theory)) l.clauses l.trail;
-      clash : IsConflict (theory.lawful (theory.problem l.fn.theory)) l.clauses (truths_of l.trail) l.conflict;
+      sound : IsSound (theory.lawful (theory.problem l.theory)) l.clauses l.trail;
+      clash : IsConflict (theory.lawful (theory.problem l.theory)) l.clauses (truths_of l.trail) l.conflict;
     }
 
 abbrev pub decreases-back : goal.decreases-back

@@ -10,7 +10,7 @@ invariant-loop-lit g l =
     record {
       same : theory.problem l.theory ≡ theory.problem l.fn.theory;
       stands : Stands theory l.theory l.trail;
-      sound : IsSound (theory.lawful (theory.problem l.fn.theory)) l.clauses l.trail;
+      sound : IsSound (theory.lawful (theory.problem l.theory)) l.clauses l.trail;
       extends : Extends l.fn.trail l.trail;
       decided : decided_on (truths_of l.trail) (take l.lit-index l.clause) ≡ true;
     }

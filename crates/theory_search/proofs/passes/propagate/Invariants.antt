@@ -9,6 +9,6 @@ invariant-loop-number g l =
     record {
       same : theory.problem l.theory ≡ theory.problem l.fn.theory;
       stands : Stands theory l.theory l.trail;
-      sound : IsSound (theory.lawful (theory.problem l.fn.theory)) l.clauses l.trail;
+      sound : IsSound (theory.lawful (theory.problem l.theory)) l.clauses l.trail;
       extends : Extends l.fn.trail l.trail;
     }

@@ -10,7 +10,7 @@ invariant-turns g l =
       same : theory.problem l.theory ≡ theory.problem l.fn.theory;
       atoms : l.trail.atoms ≡ l.fn.trail.atoms;
       stands : Stands theory l.theory l.trail;
-      sound : IsSound (theory.lawful (theory.problem l.fn.theory)) l.clauses l.trail;
+      sound : IsSound (theory.lawful (theory.problem l.theory)) l.clauses l.trail;
     }
 
 abbrev pub decreases-turns : goal.decreases-turns
