@@ -1,0 +1,4 @@
+pub mod Chains
+pub mod Clauses
+pub mod Definitions
+pub mod Digests

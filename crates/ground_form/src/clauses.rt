@@ -1,0 +1,213 @@
+//! Clauses of formulas without quantifiers.
+
+ghost use Rattle.std.specs.Prelude.{◌≡◌, ℕ, Bool, true, [], ◌∷◌, ◌++◌, length, List, IfOk, OnOk, All};
+ghost use Rattle.std.specs.List.{AllZip, flat_map};
+ghost use Rattle.mbqi_values.specs.Clauses.{all_true, AreBelow};
+ghost use Rattle.mbqi_values.specs.declared.lit.Lit.{Lit};
+ghost use Rattle.mbqi_terms.specs.Binders.{IsQuantifierFree};
+ghost use Rattle.mbqi_terms.specs.Meanings.{Meanings, truth_of};
+ghost use Rattle.ground_form.specs.Clauses.{AgreeOnBase, AreClausesOf, GrowsBy, IsLitOf, truths_in};
+ghost use Rattle.ground_form.specs.Definitions.{definition_of, definitions_in, parts_in};
+
+use crate::table::AtomTable;
+use mbqi_terms::Formula;
+use mbqi_values::{Lit, LitLists, Lits};
+use std::alloc::{AllocError, Global};
+
+/// The clauses of a formula without quantifiers (Tseitin 1968): the unit clause of the formula, and the clauses that define each
+/// part of it, in the order of the parts. Its atoms are numbered by the table, which keeps those that it has and takes the parts
+/// that are new. The one error is want of memory, after which the table may have new formulas.
+///
+/// The clauses are linear in the formula. The table copies each part, so it takes memory, and this call time, in proportion to
+/// the formula's size times its depth.
+pub fn clauses_of(alloc: Global, table: &mut AtomTable, g: &Formula) -> Result<LitLists, AllocError>
+    requires { IsQuantifierFree g.now }
+    ensures grows { GrowsBy (parts_in g.now) table.old table.new }
+    ensures below { IfOk result (AreBelow (length table.new)) }
+    ensures listed { IfOk result (λ clauses. AreClausesOf table.new clauses ((g.now ∷ []) ∷ definitions_in g.now)) }
+    ensures truth { IfOk result (λ clauses. (m : Meanings) → all_true (truths_in m table.new) clauses ≡ truth_of m g.now) }
+    ensures forced { IfOk result (λ clauses. (m : Meanings) (truths : ℕ → Bool) → AgreeOnBase m table.new truths
+        → all_true truths clauses ≡ true → truth_of m g.now ≡ true) }
+{
+    let mut clauses = LitLists::new(alloc);
+    let lit = lit_of(alloc, table, g)?;
+    push_clause(alloc, &mut clauses, &[lit])?;
+    push_definitions(alloc, table, &mut clauses, g, lit)?;
+    Ok(clauses)
+}
+
+// The literal of a formula. The table takes its atom.
+fn lit_of(alloc: Global, table: &mut AtomTable, f: &Formula) -> Result<Lit, AllocError> {
+    match f {
+        Formula::Not(part) => Ok(lit_of(alloc, table, part.get())?.negated()),
+        _ => Ok(Lit {
+            atom: table.number(alloc, f)?,
+            yes: true,
+        }),
+    }
+}
+
+// The literals of the formulas.
+fn lits_of(alloc: Global, table: &mut AtomTable, parts: &[Formula]) -> Result<Lits, AllocError> {
+    let mut lits = Lits::new(alloc);
+    for part in parts {
+        lits.push(lit_of(alloc, table, part)?)?;
+    }
+    Ok(lits)
+}
+
+// Pushes the clauses that define the formula, whose literal is given, and its parts.
+#[cycle(definitions)]
+fn push_definitions(
+    alloc: Global,
+    table: &mut AtomTable,
+    clauses: &mut LitLists,
+    f: &Formula,
+    lit: Lit,
+) -> Result<(), AllocError> {
+    match f {
+        Formula::Truth(truth) => {
+            let unit = if *truth { lit } else { lit.negated() };
+            push_clause(alloc, clauses, &[unit])
+        }
+        Formula::Not(part) => push_definitions(alloc, table, clauses, part.get(), lit.negated()),
+        Formula::All(parts) => {
+            let lits = lits_of(alloc, table, parts.as_slice())?;
+            push_each_follows(alloc, clauses, lit.negated(), lits.as_slice())?;
+            push_negated_behind(alloc, clauses, lit, lits.as_slice())?;
+            push_all_definitions(alloc, table, clauses, parts.as_slice(), lits.as_slice())
+        }
+        Formula::Any(parts) => {
+            let lits = lits_of(alloc, table, parts.as_slice())?;
+            push_follows_from_each(alloc, clauses, lit, lits.as_slice())?;
+            push_behind(alloc, clauses, lit.negated(), lits.as_slice())?;
+            push_all_definitions(alloc, table, clauses, parts.as_slice(), lits.as_slice())
+        }
+        Formula::Iff(left, right) => {
+            let left = left.get();
+            let right = right.get();
+            let first = lit_of(alloc, table, left)?;
+            let second = lit_of(alloc, table, right)?;
+            push_equivalence(alloc, clauses, lit, first, second)?;
+            push_definitions(alloc, table, clauses, left, first)?;
+            push_definitions(alloc, table, clauses, right, second)
+        }
+        Formula::Choose(condition, yes, no) => {
+            let condition = condition.get();
+            let yes = yes.get();
+            let no = no.get();
+            let chooses = lit_of(alloc, table, condition)?;
+            let first = lit_of(alloc, table, yes)?;
+            let second = lit_of(alloc, table, no)?;
+            push_choice(alloc, clauses, lit, chooses, first, second)?;
+            push_definitions(alloc, table, clauses, condition, chooses)?;
+            push_definitions(alloc, table, clauses, yes, first)?;
+            push_definitions(alloc, table, clauses, no, second)
+        }
+        _ => Ok(()),
+    }
+}
+
+// Pushes the clauses that define each of the formulas, whose literals are given.
+#[cycle(definitions)]
+fn push_all_definitions(
+    alloc: Global,
+    table: &mut AtomTable,
+    clauses: &mut LitLists,
+    parts: &[Formula],
+    lits: &[Lit],
+) -> Result<(), AllocError> {
+    for at in 0..parts.len() {
+        push_definitions(alloc, table, clauses, &parts[at], lits[at])?;
+    }
+    Ok(())
+}
+
+fn push_clause(alloc: Global, clauses: &mut LitLists, lits: &[Lit]) -> Result<(), AllocError> {
+    clauses.push(Lits::from_slice(alloc, lits)?)
+}
+
+// For each literal the clause of a first one and this one.
+fn push_each_follows(
+    alloc: Global,
+    clauses: &mut LitLists,
+    first: Lit,
+    lits: &[Lit],
+) -> Result<(), AllocError> {
+    for lit in lits {
+        push_clause(alloc, clauses, &[first, *lit])?;
+    }
+    Ok(())
+}
+
+// For each literal the clause of a first one and the negation of this one.
+fn push_follows_from_each(
+    alloc: Global,
+    clauses: &mut LitLists,
+    first: Lit,
+    lits: &[Lit],
+) -> Result<(), AllocError> {
+    for lit in lits {
+        push_clause(alloc, clauses, &[first, lit.negated()])?;
+    }
+    Ok(())
+}
+
+// The clause of a first literal and these behind it.
+fn push_behind(
+    alloc: Global,
+    clauses: &mut LitLists,
+    first: Lit,
+    lits: &[Lit],
+) -> Result<(), AllocError> {
+    let mut clause = Lits::new(alloc);
+    clause.push(first)?;
+    for lit in lits {
+        clause.push(*lit)?;
+    }
+    clauses.push(clause)
+}
+
+// The clause of a first literal and the negations of these behind it.
+fn push_negated_behind(
+    alloc: Global,
+    clauses: &mut LitLists,
+    first: Lit,
+    lits: &[Lit],
+) -> Result<(), AllocError> {
+    let mut clause = Lits::new(alloc);
+    clause.push(first)?;
+    for lit in lits {
+        clause.push(lit.negated())?;
+    }
+    clauses.push(clause)
+}
+
+// The clauses that say that a literal is true exactly where two others have one truth.
+fn push_equivalence(
+    alloc: Global,
+    clauses: &mut LitLists,
+    lit: Lit,
+    left: Lit,
+    right: Lit,
+) -> Result<(), AllocError> {
+    push_clause(alloc, clauses, &[lit.negated(), left.negated(), right])?;
+    push_clause(alloc, clauses, &[lit.negated(), left, right.negated()])?;
+    push_clause(alloc, clauses, &[lit, left, right])?;
+    push_clause(alloc, clauses, &[lit, left.negated(), right.negated()])
+}
+
+// The clauses that say that a literal has the truth of the second of these where the first is true, and else that of the third.
+fn push_choice(
+    alloc: Global,
+    clauses: &mut LitLists,
+    lit: Lit,
+    condition: Lit,
+    yes: Lit,
+    no: Lit,
+) -> Result<(), AllocError> {
+    push_clause(alloc, clauses, &[lit.negated(), condition.negated(), yes])?;
+    push_clause(alloc, clauses, &[lit.negated(), condition, no])?;
+    push_clause(alloc, clauses, &[lit, condition.negated(), yes.negated()])?;
+    push_clause(alloc, clauses, &[lit, condition, no.negated()])
+}
