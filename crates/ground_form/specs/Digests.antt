@@ -46,14 +46,14 @@ term_digest_layer (Term-F.Apply f args) = mixed_all (mixed 15 f) args
 term_digest_layer (Term-F.Read a i) = mixed (mixed 16 a) i
 term_digest_layer (Term-F.Default a) = mixed 17 a
 
-unfoldable pub array_digest : ArrayTerm → ℕ
-array_digest = fold-ArrayTerm ℕ ℕ ℕ array_digest_layer symbol_digest_layer term_digest_layer
+abbrev pub array_digest : ArrayTerm → ℕ
+array_digest a = fold-ArrayTerm ℕ ℕ ℕ array_digest_layer symbol_digest_layer term_digest_layer a
 
-unfoldable pub symbol_digest : Symbol → ℕ
-symbol_digest = fold-Symbol ℕ ℕ ℕ array_digest_layer symbol_digest_layer term_digest_layer
+abbrev pub symbol_digest : Symbol → ℕ
+symbol_digest s = fold-Symbol ℕ ℕ ℕ array_digest_layer symbol_digest_layer term_digest_layer s
 
-unfoldable pub term_digest : Term → ℕ
-term_digest = fold-Term ℕ ℕ ℕ array_digest_layer symbol_digest_layer term_digest_layer
+abbrev pub term_digest : Term → ℕ
+term_digest t = fold-Term ℕ ℕ ℕ array_digest_layer symbol_digest_layer term_digest_layer t
 
 abbrev pub digest_layer : Formula-F ℕ → ℕ
 digest_layer (Formula-F.Truth b) = if b then 18 else 19
@@ -69,5 +69,5 @@ digest_layer (Formula-F.Choose c f g) = mixed (mixed (mixed 28 c) f) g
 digest_layer (Formula-F.Forall binders f) = mixed 29 f
 digest_layer (Formula-F.Exists binders f) = mixed 30 f
 
-unfoldable pub digest_of : Formula → ℕ
-digest_of = fold-Formula ℕ digest_layer
+abbrev pub digest_of : Formula → ℕ
+digest_of f = fold-Formula ℕ digest_layer f

@@ -1,13 +1,13 @@
 //! Clauses of formulas without quantifiers.
 
-ghost use Rattle.std.specs.Prelude.{◌≡◌, ℕ, Bool, true, [], ◌∷◌, ◌++◌, length, List, IfOk, OnOk, All};
+ghost use Rattle.std.specs.Prelude.{◌≡◌, ℕ, Bool, true, [], ◌∷◌, ◌++◌, length, map, IfOk, OnOk, All};
 ghost use Rattle.std.specs.List.{AllZip, flat_map};
 ghost use Rattle.mbqi_values.specs.Clauses.{all_true, AreBelow};
-ghost use Rattle.mbqi_values.specs.declared.lit.Lit.{Lit};
 ghost use Rattle.mbqi_terms.specs.Binders.{IsQuantifierFree};
 ghost use Rattle.mbqi_terms.specs.Meanings.{Meanings, truth_of};
-ghost use Rattle.ground_form.specs.Clauses.{AgreeOnBase, AreClausesOf, GrowsBy, IsLitOf, truths_in};
-ghost use Rattle.ground_form.specs.Definitions.{definition_of, definitions_in, parts_in};
+ghost use Rattle.ground_form.specs.Clauses.{AddsClauses, AgreeOnBase, AreClausesOf, GrowsBy, IsLitOf, negated, truths_in};
+ghost use Rattle.ground_form.specs.Definitions.{definitions_in, parts_in};
+ghost use Rattle.ground_form.specs.Rows.{choice_rows, conjunction_rows, disjunction_rows, equivalence_rows};
 
 use crate::table::AtomTable;
 use mbqi_terms::Formula;
@@ -37,7 +37,10 @@ pub fn clauses_of(alloc: Global, table: &mut AtomTable, g: &Formula) -> Result<L
 }
 
 // The literal of a formula. The table takes its atom.
-fn lit_of(alloc: Global, table: &mut AtomTable, f: &Formula) -> Result<Lit, AllocError> {
+fn lit_of(alloc: Global, table: &mut AtomTable, f: &Formula) -> Result<Lit, AllocError>
+    ensures grows { GrowsBy (parts_in f.now) table.old table.new }
+    ensures lit { IfOk result (λ lit. IsLitOf table.new lit f.now) }
+{
     match f {
         Formula::Not(part) => Ok(lit_of(alloc, table, part.get())?.negated()),
         _ => Ok(Lit {
@@ -48,7 +51,10 @@ fn lit_of(alloc: Global, table: &mut AtomTable, f: &Formula) -> Result<Lit, Allo
 }
 
 // The literals of the formulas.
-fn lits_of(alloc: Global, table: &mut AtomTable, parts: &[Formula]) -> Result<Lits, AllocError> {
+fn lits_of(alloc: Global, table: &mut AtomTable, parts: &[Formula]) -> Result<Lits, AllocError>
+    ensures grows { GrowsBy (flat_map parts_in parts.now) table.old table.new }
+    ensures lits { IfOk result (λ lits. AllZip (IsLitOf table.new) lits parts.now) }
+{
     let mut lits = Lits::new(alloc);
     for part in parts {
         lits.push(lit_of(alloc, table, part)?)?;
@@ -64,23 +70,25 @@ fn push_definitions(
     clauses: &mut LitLists,
     f: &Formula,
     lit: Lit,
-) -> Result<(), AllocError> {
+) -> Result<(), AllocError>
+    requires free { IsQuantifierFree f.now }
+    requires lit { IsLitOf table.old lit f.now }
+    ensures grows { GrowsBy (parts_in f.now) table.old table.new }
+    ensures clauses { OnOk result (AddsClauses table.new clauses.old clauses.new (definitions_in f.now)) }
+{
     match f {
         Formula::Truth(truth) => {
-            let unit = if *truth { lit } else { lit.negated() };
-            push_clause(alloc, clauses, &[unit])
+            push_clause(alloc, clauses, &[if *truth { lit } else { lit.negated() }])
         }
         Formula::Not(part) => push_definitions(alloc, table, clauses, part.get(), lit.negated()),
         Formula::All(parts) => {
             let lits = lits_of(alloc, table, parts.as_slice())?;
-            push_each_follows(alloc, clauses, lit.negated(), lits.as_slice())?;
-            push_negated_behind(alloc, clauses, lit, lits.as_slice())?;
+            push_conjunction(alloc, clauses, lit, lits.as_slice())?;
             push_all_definitions(alloc, table, clauses, parts.as_slice(), lits.as_slice())
         }
         Formula::Any(parts) => {
             let lits = lits_of(alloc, table, parts.as_slice())?;
-            push_follows_from_each(alloc, clauses, lit, lits.as_slice())?;
-            push_behind(alloc, clauses, lit.negated(), lits.as_slice())?;
+            push_disjunction(alloc, clauses, lit, lits.as_slice())?;
             push_all_definitions(alloc, table, clauses, parts.as_slice(), lits.as_slice())
         }
         Formula::Iff(left, right) => {
@@ -116,15 +124,48 @@ fn push_all_definitions(
     clauses: &mut LitLists,
     parts: &[Formula],
     lits: &[Lit],
-) -> Result<(), AllocError> {
+) -> Result<(), AllocError>
+    requires free { All IsQuantifierFree parts.now }
+    requires lits { AllZip (IsLitOf table.old) lits.now parts.now }
+    ensures grows { GrowsBy (flat_map parts_in parts.now) table.old table.new }
+    ensures clauses { OnOk result (AddsClauses table.new clauses.old clauses.new (flat_map definitions_in parts.now)) }
+{
     for at in 0..parts.len() {
         push_definitions(alloc, table, clauses, &parts[at], lits[at])?;
     }
     Ok(())
 }
 
-fn push_clause(alloc: Global, clauses: &mut LitLists, lits: &[Lit]) -> Result<(), AllocError> {
+fn push_clause(alloc: Global, clauses: &mut LitLists, lits: &[Lit]) -> Result<(), AllocError>
+    ensures { OnOk result (clauses.new ≡ clauses.old ++ lits.now ∷ []) }
+{
     clauses.push(Lits::from_slice(alloc, lits)?)
+}
+
+// The clauses that say that a literal is true exactly where all others are.
+fn push_conjunction(
+    alloc: Global,
+    clauses: &mut LitLists,
+    lit: Lit,
+    lits: &[Lit],
+) -> Result<(), AllocError>
+    ensures { OnOk result (clauses.new ≡ clauses.old ++ conjunction_rows lit lits.now) }
+{
+    push_each_follows(alloc, clauses, lit.negated(), lits)?;
+    push_negated_behind(alloc, clauses, lit, lits)
+}
+
+// The clauses that say that a literal is true exactly where some other is.
+fn push_disjunction(
+    alloc: Global,
+    clauses: &mut LitLists,
+    lit: Lit,
+    lits: &[Lit],
+) -> Result<(), AllocError>
+    ensures { OnOk result (clauses.new ≡ clauses.old ++ disjunction_rows lit lits.now) }
+{
+    push_follows_from_each(alloc, clauses, lit, lits)?;
+    push_behind(alloc, clauses, lit.negated(), lits)
 }
 
 // For each literal the clause of a first one and this one.
@@ -133,7 +174,9 @@ fn push_each_follows(
     clauses: &mut LitLists,
     first: Lit,
     lits: &[Lit],
-) -> Result<(), AllocError> {
+) -> Result<(), AllocError>
+    ensures { OnOk result (clauses.new ≡ clauses.old ++ map (λ lit. first ∷ lit ∷ []) lits.now) }
+{
     for lit in lits {
         push_clause(alloc, clauses, &[first, *lit])?;
     }
@@ -146,7 +189,9 @@ fn push_follows_from_each(
     clauses: &mut LitLists,
     first: Lit,
     lits: &[Lit],
-) -> Result<(), AllocError> {
+) -> Result<(), AllocError>
+    ensures { OnOk result (clauses.new ≡ clauses.old ++ map (λ lit. first ∷ negated lit ∷ []) lits.now) }
+{
     for lit in lits {
         push_clause(alloc, clauses, &[first, lit.negated()])?;
     }
@@ -159,7 +204,9 @@ fn push_behind(
     clauses: &mut LitLists,
     first: Lit,
     lits: &[Lit],
-) -> Result<(), AllocError> {
+) -> Result<(), AllocError>
+    ensures { OnOk result (clauses.new ≡ clauses.old ++ (first ∷ lits.now) ∷ []) }
+{
     let mut clause = Lits::new(alloc);
     clause.push(first)?;
     for lit in lits {
@@ -174,7 +221,9 @@ fn push_negated_behind(
     clauses: &mut LitLists,
     first: Lit,
     lits: &[Lit],
-) -> Result<(), AllocError> {
+) -> Result<(), AllocError>
+    ensures { OnOk result (clauses.new ≡ clauses.old ++ (first ∷ map negated lits.now) ∷ []) }
+{
     let mut clause = Lits::new(alloc);
     clause.push(first)?;
     for lit in lits {
@@ -190,7 +239,9 @@ fn push_equivalence(
     lit: Lit,
     left: Lit,
     right: Lit,
-) -> Result<(), AllocError> {
+) -> Result<(), AllocError>
+    ensures { OnOk result (clauses.new ≡ clauses.old ++ equivalence_rows lit left right) }
+{
     push_clause(alloc, clauses, &[lit.negated(), left.negated(), right])?;
     push_clause(alloc, clauses, &[lit.negated(), left, right.negated()])?;
     push_clause(alloc, clauses, &[lit, left, right])?;
@@ -205,7 +256,9 @@ fn push_choice(
     condition: Lit,
     yes: Lit,
     no: Lit,
-) -> Result<(), AllocError> {
+) -> Result<(), AllocError>
+    ensures { OnOk result (clauses.new ≡ clauses.old ++ choice_rows lit condition yes no) }
+{
     push_clause(alloc, clauses, &[lit.negated(), condition.negated(), yes])?;
     push_clause(alloc, clauses, &[lit.negated(), condition, no])?;
     push_clause(alloc, clauses, &[lit, condition.negated(), yes.negated()])?;

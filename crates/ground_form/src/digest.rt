@@ -130,5 +130,5 @@ fn mixed(digest: u64, part: u64) -> u64
 fn low_bits(number: i128) -> u64
     ensures { result ≡ low_bits number }
 {
-    number.unsigned_abs() as u64
+    (number.unsigned_abs() % 0x1_0000_0000_0000_0000) as u64
 }

@@ -1,10 +1,10 @@
 //! Formulas in the order in which they came, each once.
 
-ghost use Rattle.std.specs.Prelude.{◌≡◌, ◌≢◌, ◌<◌, ℕ, false, [], length, nat_eq, Some, slice_get, IfOk, IfNone, IfSome, OnErr};
-ghost use Rattle.indexmap.specs.IndexMap.{get};
+ghost use Rattle.std.specs.Prelude.{◌≡◌, ◌≢◌, ◌<◌, ℕ, false, [], ◌∷◌, ◌++◌, length, Option, Some, slice_get, IfOk, IfNone, IfSome, OnErr};
 ghost use Rattle.mbqi_terms.specs.Distinct.{AreDistinct, Puts};
-ghost use Rattle.ground_form.specs.Chains.{IsTable, formulas_of};
+ghost use Rattle.ground_form.specs.Chains.{IsTable, formulas_of, last_before};
 ghost use Rattle.ground_form.specs.Definitions.{is_not};
+ghost use Rattle.ground_form.specs.Digests.{digest_of};
 
 use crate::digest::digest_of;
 use indexmap::IndexMap;
@@ -29,12 +29,17 @@ struct Entry {
 }
 
 impl Model for AtomTable {
+    ghost use Rattle.std.specs.Coded.{codes};
     ghost use Rattle.std.specs.Prelude.{List, nat_eq};
+    ghost use Rattle.mbqi_terms.specs.contracts.formula.Formula as formulas;
+    ghost use Rattle.mbqi_terms.specs.contracts.term.ArrayTerm as arrays;
     ghost use Rattle.indexmap.specs.IndexMap.{get};
     ghost use Rattle.mbqi_terms.specs.declared.formula.Formula.{Formula};
     ghost use Rattle.ground_form.specs.Chains.{IsTable, formulas_of};
 
     ghost Value = { List Formula };
+
+    ghost coded = { Prim.hlevel (codes, formulas.the_row.coded, arrays.the_row.coded) };
 
     ghost view = { λ s. formulas_of s.entries.items };
 
@@ -77,7 +82,7 @@ impl AtomTable {
         ensures err { OnErr result (self.new ≡ self.old) }
     {
         let digest = digest_of(f);
-        let last = self.lasts.get(digest).copied();
+        let last = self.lasts.get(&digest).copied();
         if let Some(place) = place_of(self.entries.as_slice(), last, f) {
             return Ok(place);
         }
@@ -90,7 +95,14 @@ impl AtomTable {
         formula: Formula,
         digest: u64,
         last: Option<usize>,
-    ) -> Result<usize, AllocError> {
+    ) -> Result<usize, AllocError>
+    requires new { (k : ℕ) → slice_get self.old k ≢ Some formula }
+    requires positive { is_not formula ≡ false }
+    requires digest { digest ≡ digest_of formula }
+    requires last { last ≡ last_before self.old digest (length self.old) }
+    ensures ok { IfOk result (λ atom. (atom ≡ length self.old) × (self.new ≡ self.old ++ formula ∷ [])) }
+    ensures err { OnErr result (self.new ≡ self.old) }
+{
         let place = self.entries.len();
         self.entries.push(Entry {
             formula,
@@ -107,7 +119,12 @@ impl AtomTable {
 }
 
 // The place of the formula, if it is there, where the last one of its digest is given.
-fn place_of(entries: &[Entry], last: Option<usize>, f: &Formula) -> Option<usize> {
+fn place_of(entries: &[Entry], last: Option<usize>, f: &Formula) -> Option<usize>
+    requires table { (lasts : ℕ → Option ℕ) × IsTable entries.now lasts }
+    requires last { last ≡ last_before (formulas_of entries.now) (digest_of f.now) (length entries.now) }
+    ensures found { IfSome result (λ place. slice_get (formulas_of entries.now) place ≡ Some f.now) }
+    ensures absent { IfNone result ((k : ℕ) → slice_get (formulas_of entries.now) k ≢ Some f.now) }
+{
     let mut next = last;
     while let Some(place) = next {
         let entry = &entries[place];

@@ -1,0 +1,19 @@
+-- What was left out is behind the next place, which is the last of the digest before some place.
+use Rattle.std.proofs.Common.{◌≡◌, ◌≢◌, ◌<◌, ◌≤◌, ℕ, suc, Option, None, Some, length, slice_get}
+use Rattle.mbqi_terms.specs.declared.formula.Formula.{Formula}
+use Rattle.ground_form.specs.Chains.{formulas_of, last_before}
+use Rattle.ground_form.specs.Digests.{digest_of}
+use Rattle.ground_form.proofs.table.place_of.Given as goal
+
+abbrev room : Option ℕ → ℕ
+room None = 0
+room (Some place) = suc place
+
+abbrev pub invariant-loop-place : goal.invariant-loop-place
+invariant-loop-place l =
+    (bound : ℕ) × (bound ≤ length l.entries)
+    × (l.next ≡ last_before (formulas_of l.entries) (digest_of l.f) bound)
+    × ((k : ℕ) → bound ≤ k → slice_get (formulas_of l.entries) k ≢ Some l.f)
+
+abbrev pub decreases-loop-place : goal.decreases-loop-place
+decreases-loop-place l = room l.next
