@@ -7,7 +7,7 @@ ghost use Rattle.element_models.specs.Filling.{IsRaised, put_in, with_row, with_
 ghost use Rattle.element_models.specs.Rows.{element_of, row_of};
 
 use function_model::{Row, Rows, Table, rising_rows};
-use ground_form::GroundAtom;
+use element_atoms::GroundAtom;
 use mbqi_terms::TermId;
 use mbqi_values::{Sequence, Value};
 use std::alloc::{AllocError, Global};

@@ -20,7 +20,7 @@ use Rattle.function_model.specs.declared.model.Row.{Row}
 use Rattle.function_model.specs.declared.model.Table.{Table}
 use Rattle.function_model.proofs.Values.{value_apply}
 use Rattle.mbqi_terms.specs.ScriptLists.{skolems_of}
-use Rattle.ground_form.specs.Profile.{IsAtom}
+use Rattle.element_atoms.specs.Profile.{IsAtom}
 use Rattle.std.proofs.Common.{arith, cond}
 
 -- a row's value and the default have the result's sort

@@ -12,7 +12,7 @@ use Rattle.mbqi_terms.specs.declared.script.Script.{Script}
 use Rattle.mbqi_terms.proofs.Places.{all_at}
 use Rattle.function_model.specs.Holds.{values_in}
 use Rattle.mbqi_terms.specs.Meanings.{Meanings, truth_of}
-use Rattle.ground_form.specs.Atoms.{formulas_in}
+use Rattle.element_atoms.specs.Atoms.{formulas_in}
 use Rattle.rule_form.specs.Rules.{IsChoice, line_of, lines_of}
 use Rattle.rule_form.specs.declared.choice.Choice.{Choice}
 use Rattle.tuple_check.proofs.TupleLists.{distinct_append}
