@@ -8,17 +8,14 @@ runs. A table has so many rows at the knots 0, 2, 4 and so on of each argument, 
 the knots and between them. A line tells the arguments, the rows, the milliseconds of a million look-ups by halves, and those of a thousand scans: the first
 grow with the logarithm of the rows, the others along with them. The folder is deleted at the end. It is no part of the gate.
 """
-import os
-import shutil
-import subprocess
 import sys
-import tempfile
 
-TOP = os.path.dirname(os.path.dirname(os.path.abspath(__file__)))
+import proved_program
+
 COUNTS = [10, 1_000, 100_000]
 CRATES = ["mbqi_values", "mbqi_terms", "function_model"]
 
-PROGRAM_LINE = "values_bench: mbqi_values function_model\n"
+PROGRAM_LINE = "values_bench: mbqi_values function_model"
 
 PROGRAM = """//! Looks values up in tables and tells the time.
 #![tactic(auto)]
@@ -206,29 +203,11 @@ fn main(rt: HostRuntime) -> Result<(), io::Error> {
 """
 
 
-def make_repository(top, counts):
-    """Writes the repository into the folder."""
-    for name in CRATES:
-        shutil.copytree(os.path.join(TOP, "crates", name), os.path.join(top, "crates", name), ignore=shutil.ignore_patterns("out"))
-    program = os.path.join(top, "crates", "values_bench")
-    os.makedirs(os.path.join(program, "src"))
-    with open(os.path.join(program, "src", "main.rt"), "w", encoding="utf-8") as file:
-        file.write(PROGRAM.replace("COUNTS", ", ".join(f"{count}usize" for count in counts)))
-    with open(os.path.join(TOP, "crates.txt"), encoding="utf-8") as file:
-        lines = [line for line in file if line.split(":")[0] in CRATES]
-    with open(os.path.join(top, "crates.txt"), "w", encoding="utf-8") as file:
-        file.writelines(lines + [PROGRAM_LINE])
-    shutil.copy(os.path.join(TOP, "HANDLES"), top)
-    return program
-
-
 def main():
     counts = [int(word) for word in sys.argv[1:]] or COUNTS
-    with tempfile.TemporaryDirectory() as top:
-        program = make_repository(top, counts)
-        print(f"{'args':>4} {'rows':>10} {'by halves':>10} {'scans':>10}", flush=True)
-        done = subprocess.run(["rt", "run"], cwd=program, check=False)
-    sys.exit(done.returncode)
+    print(f"{'args':>4} {'rows':>10} {'by halves':>10} {'scans':>10}", flush=True)
+    source = PROGRAM.replace("COUNTS", ", ".join(f"{count}usize" for count in counts))
+    sys.exit(proved_program.run(PROGRAM_LINE, CRATES, source))
 
 
 main()

@@ -31,6 +31,7 @@ impl FunctionModel {
     }
 }
 
+/// What [`FunctionModel::eval_term`] gives, over lent lists.
 #[cycle(value)]
 pub(crate) fn value_at(
     model: &FunctionModel,
@@ -70,7 +71,7 @@ pub(crate) fn value_at(
     }
 }
 
-// The value of a table at the values of terms: each narrows the rows, and none is kept.
+/// The value of a table at the values of terms: each narrows the rows, and none is kept.
 #[cycle(value)]
 fn value_of_table(
     model: &FunctionModel,
@@ -95,7 +96,7 @@ fn value_of_table(
     first_value(rows, table.default)
 }
 
-// The read of an array that is a name.
+/// The read of an array that is a name.
 fn read_name(model: &FunctionModel, array: &ArrayTerm, index: Value) -> Value
     requires sound { IsSound model.now }
     requires name { is_compound array.now ≡ false }
@@ -107,6 +108,7 @@ fn read_name(model: &FunctionModel, array: &ArrayTerm, index: Value) -> Value
     }
 }
 
+/// The read of a declared function of one argument.
 fn read_at(model: &FunctionModel, function: usize, index: Value) -> Value
     requires { IsSound model.now }
     ensures { result ≡ given_by (is_declared function) model.now (index ∷ []) }

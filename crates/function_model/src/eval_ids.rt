@@ -89,7 +89,7 @@ fn value_of_id(model: &FunctionModel, store: &TermStore, id: TermId) -> Value
     }
 }
 
-// The value of a head at terms that come before a number.
+/// The value of a head at terms that come before a number.
 #[cycle(ids)]
 fn value_of_head(
     model: &FunctionModel,
@@ -111,7 +111,7 @@ fn value_of_head(
     }
 }
 
-// The value of a table at terms that come before a number: each narrows the rows, and no value is kept.
+/// The value of a table at terms that come before a number: each narrows the rows, and no value is kept.
 #[cycle(ids)]
 fn value_of_args(
     model: &FunctionModel,

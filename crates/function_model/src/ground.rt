@@ -40,6 +40,7 @@ impl FunctionModel {
     }
 }
 
+/// What [`FunctionModel::eval_ground`] gives, over lent lists.
 #[cycle(truth)]
 fn truth_at(model: &FunctionModel, f: &Formula, binders: &[Binder], point: &[Value]) -> bool
     requires sound { IsSound model.now }
@@ -94,13 +95,11 @@ fn truth_at(model: &FunctionModel, f: &Formula, binders: &[Binder], point: &[Val
                 truth_at(model, no, binders, point)
             }
         }
-        Formula::SameArray(_, _) | Formula::Forall(_, _) | Formula::Exists(_, _) => {
-            unreachable!()
-        }
+        _ => unreachable!(),
     }
 }
 
-// Whether each of the formulas is true.
+/// Whether each of the formulas is true.
 #[cycle(truth)]
 fn are_true_at(
     model: &FunctionModel,
@@ -121,7 +120,7 @@ fn are_true_at(
     true
 }
 
-// Whether one of the formulas is true.
+/// Whether one of the formulas is true.
 #[cycle(truth)]
 fn is_one_true_at(
     model: &FunctionModel,

@@ -35,6 +35,7 @@ fn keep_each_once(rows: &mut Vec<Row>)
     rows.dedup_by(|later, kept| rank_rows(later, kept) == Ordering::Equal);
 }
 
+/// Rows compared by their places.
 pub(crate) fn rank_rows(left: &Row, right: &Row) -> Ordering
     ensures { result ≡ rank_of_rows left.now right.now }
 {

@@ -73,6 +73,7 @@ impl FunctionModel {
         }
     }
 
+    /// The table of the Skolem symbol of an assertion's place, if there is one.
     pub(crate) fn skolem_table(&self, assertion: usize, place: usize) -> Option<&Table>
         ensures { option_copied result ≡ table_where (is_skolem assertion place) self.now }
     {
@@ -81,12 +82,14 @@ impl FunctionModel {
             .find(|table| is_skolem(&table.name, assertion, place))
     }
 
+    /// The table of a sort's seed, if there is one.
     pub(crate) fn seed_table(&self, sort: usize) -> Option<&Table>
         ensures { option_copied result ≡ table_where (is_seed sort) self.now }
     {
         self.tables.iter().find(|table| is_seed(&table.name, sort))
     }
 
+    /// The table of the far index, which full models alone have.
     pub(crate) fn far_table(&self) -> Option<&Table>
         ensures { option_copied result ≡ table_where is_far self.now }
     {
