@@ -5,6 +5,7 @@ pub mod FalseClauses
 pub mod FreshSteps
 pub mod Fullness
 pub mod Growth
+pub mod LastSteps
 pub mod Members
 pub mod Ranks
 pub mod Refusals
@@ -12,6 +13,7 @@ pub mod Resolution
 pub mod SoleTruths
 pub mod SoundSteps
 pub mod Standings
+pub mod Starting
 pub mod TrailSteps
 pub mod TruthsAt
 pub mod UnitClauses
