@@ -1,15 +1,15 @@
-use Rattle.std.proofs.Common.{ℕ, ◌≡◌, ◌+◌, ◌<◌, ◌≤◌, Bool, true, false, List, [], ◌∷◌, ◌++◌, length, Option, None, Some, Result, Ok, Err, IfOk, IfNone, is_some, refl, sym, ap, ◌∙◌, subst, arith, append_assoc, append-nil, length-append, get_or-set_same}
+use Rattle.std.proofs.Common.{ℕ, ◌≡◌, ◌+◌, ◌-◌, ◌<◌, ◌≤◌, Bool, true, false, List, [], ◌∷◌, ◌++◌, length, Option, None, Some, Result, Ok, Err, IfOk, IfNone, is_some, refl, sym, ap, ◌∙◌, subst, arith, append_assoc, append-nil, length-append, get_or-set_same}
 use Rattle.std.proofs.lemmas.List.{length_push}
 use Rattle.mbqi_values.specs.declared.lit.Lit.{Lit}
 use Rattle.mbqi_values.specs.declared.value.Value.{Value}
 use Rattle.theory_search.specs.Course.{is_chosen, no_truths, truths_after, truths_of, with_lit, with_step, AreFresh, Course, Extends}
-use Rattle.theory_search.specs.Rank.{rank_from, rank_of}
+use Rattle.theory_search.specs.Rank.{power_of_three, rank_from, rank_of}
 use Rattle.theory_search.specs.Standing.{Implies, IsSound}
 use Rattle.theory_search.specs.Truths.{atom_on}
 use Rattle.theory_search.specs.declared.step.Reason.{Reason}
 use Rattle.theory_search.specs.declared.step.Step.{Step}
 use Rattle.theory_search.proofs.FreshSteps.{length-truths, steps_fit, truths_after-push}
-use Rattle.theory_search.proofs.Ranks.{rank-append, rank-more, rank-turned}
+use Rattle.theory_search.proofs.Ranks.{rank-append, rank-below, rank-more, rank-turned}
 use Rattle.theory_search.proofs.SoundSteps.{AreImplied-push}
 
 -- Trails that grow.
@@ -82,6 +82,13 @@ rank-rises old front new last turned reason atoms steps same room chosen implied
     let moved : rank_from old.atoms (old.steps ++ rest) < rank_from front.atoms (front.steps ++ next ∷ []) =
         subst (λ (n : ℕ). rank_from n (old.steps ++ rest) < rank_from front.atoms (front.steps ++ next ∷ [])) atoms (subst (λ (ss : List Step). rank_from front.atoms ss < rank_from front.atoms (front.steps ++ next ∷ [])) (sym before) rises) in
     subst (λ (t : Course). rank_of (record old { steps = old.steps ++ rest }) < rank_of t) (sym same) moved
+
+-- As the rank rises, it comes nearer to its bound.
+pub rank-nearer : (old new : Course) → new.atoms ≡ old.atoms → rank_of old < rank_of new → power_of_three new.atoms - rank_of new < power_of_three old.atoms - rank_of old
+rank-nearer old new atoms rises =
+    let below : rank_of new < power_of_three new.atoms = rank-below new.atoms new.steps in
+    let same : power_of_three new.atoms ≡ power_of_three old.atoms = ap power_of_three atoms in
+    omega arith
 
 pub decided_by_step : {E : Type 0} (result : Result (Option (List Lit)) E) (old new : Course) (lit : Lit) (reason : Reason) (atom : ℕ) → lit.atom ≡ atom → lit.atom < old.atoms → IfOk result (λ conflict. IfNone conflict (new ≡ with_step old lit reason)) → IfOk result (λ conflict. IfNone conflict (is_some (atom_on (truths_of new) atom) ≡ true))
 decided_by_step (Ok None) old new lit reason atom same within added =

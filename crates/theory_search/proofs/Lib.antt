@@ -7,6 +7,7 @@ pub mod Fullness
 pub mod Growth
 pub mod LastSteps
 pub mod Members
+pub mod Passing
 pub mod Ranks
 pub mod Refusals
 pub mod Resolution

@@ -57,6 +57,7 @@ fn turn<T: Theory>(
     requires free { atom_on (truths_of trail.old) lit.atom ≡ None }
     requires conflict { IsConflict (T.lawful (T.problem theory.old)) clauses.now (with_lit (truths_of trail.old) lit) conflict }
     ensures problem { T.problem theory.new ≡ T.problem theory.old }
+    ensures atoms { trail.new.atoms ≡ trail.old.atoms }
     ensures stands { Stands T.Theory theory.new trail.new }
     ensures sound { IsSound (T.lawful (T.problem theory.new)) clauses.now trail.new }
     ensures turned { IfOk result (λ next. IfNone next (trail.new ≡ with_step trail.old (negation lit) (Derived conflict))) }
@@ -101,6 +102,7 @@ fn undo_last<T: Theory>(
     let step = trail.take_last().unwrap();
     if step.reason.is_chosen() {
         theory.pop();
+        trail.is_fresh();
         return turn(alloc, clauses, theory, trail, step.lit, conflict);
     }
     Ok(Some(resolved(alloc, clauses, &step, conflict)?))
