@@ -13,6 +13,6 @@ returns-in-Grown-clause-rises g c =
 pub returns-then-turned-clause-rises : goal.returns-then-turned-clause-rises
 returns-then-turned-clause-rises g c =
     let grown = c.advance.new.trail in
-    let rises : rank_of grown < rank_of c.go_back-turned.new.trail = search rules in
+    let rises : rank_of grown < rank_of c.go_back.new.trail = search rules in
     let least = rank-extends c.args.trail.now grown c.advance.ensures.extends in
     omega (arith, rises, least)
