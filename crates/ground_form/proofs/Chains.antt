@@ -1,9 +1,15 @@
 -- Formulas by their digests: what the chain of a digest leaves out, and how it grows.
 use Rattle.std.proofs.Common.{◌≡◌, ◌≢◌, ℕ, zero, suc, ◌+◌, ◌<◌, ◌≤◌, ◌==◌, Bool, true, false, List, [], ◌∷◌, ◌++◌, length, map, Option, None, Some, if◌then◌else◌, slice_get, inl, inr, refl, sym, ap, subst, ◌∙◌, arith}
+use Rattle.std.proofs.Common.{length-append, length-map, map-append, ◌⊎◌}
+use Rattle.std.specs.Prelude.{All}
+use Rattle.std.proofs.lemmas.List.Elements.{All-push}
 use Rattle.std.proofs.lemmas.Option.{slice_get_within}
 use Rattle.mbqi_terms.specs.declared.formula.Formula.{Formula}
 use Rattle.mbqi_terms.proofs.Trees.{get_front, get_seam}
-use Rattle.ground_form.specs.Chains.{has_digest, last_before}
+use Rattle.mbqi_terms.specs.Distinct.{AreDistinct}
+use Rattle.ground_form.specs.declared.table.Entry.{Entry}
+use Rattle.ground_form.specs.Chains.{IsTable, formulas_of, has_digest, last_before}
+use Rattle.ground_form.specs.Definitions.{is_not}
 use Rattle.ground_form.specs.Digests.{digest_of}
 
 module _ (formulas : List Formula) (digest : ℕ) where
@@ -50,3 +56,77 @@ pub chain_push : (formulas : List Formula) (f : Formula) (digest : ℕ)
 chain_push formulas f digest =
     ap (λ o. if has_digest digest o then Some (length formulas) else last_before (formulas ++ f ∷ []) digest (length formulas)) (get_seam formulas f [])
     ∙ ap (λ o. if digest_of f == digest then Some (length formulas) else o) (chain_grows formulas (f ∷ []) digest (length formulas) (omega arith))
+
+-- a formula that isn't there comes last
+distinct_push : (formulas : List Formula) (f : Formula) → AreDistinct formulas → ((k : ℕ) → slice_get formulas k ≢ Some f) → AreDistinct (formulas ++ f ∷ [])
+distinct_push formulas f distinct new i j g here there =
+    elim (place_in formulas f i g here) [
+      | inl first ↦ elim (place_in formulas f j g there) [
+          | inl second ↦ distinct i j g first second
+          | inr second ↦ absurd (new i (first ∙ ap Some (sym second.1)))
+        ]
+      | inr first ↦ elim (place_in formulas f j g there) [
+          | inl second ↦ absurd (new j (second ∙ ap Some (sym first.1)))
+          | inr second ↦ first.0 ∙ sym second.0
+        ]
+    ]
+  where
+    place_in : (xs : List Formula) (f : Formula) (i : ℕ) (g : Formula) → slice_get (xs ++ f ∷ []) i ≡ Some g
+        → (slice_get xs i ≡ Some g) ⊎ ((i ≡ length xs) × (f ≡ g))
+    place_in [] f zero g e = inr (refl, cc)
+    place_in [] f (suc i) g e = cc
+    place_in (x ∷ xs) f zero g e = inl e
+    place_in (x ∷ xs) f (suc i) g e = elim (place_in xs f i g e) [ inl first ↦ inl first | inr last ↦ inr (ap suc last.0, last.1) ]
+
+-- what a table keeps stays where an entry comes behind
+pub table_push : (entries : List Entry) (lasts after : ℕ → Option ℕ) (entry : Entry) → IsTable entries lasts
+    → ((k : ℕ) → slice_get (formulas_of entries) k ≢ Some entry.formula) → is_not entry.formula ≡ false
+    → entry.earlier ≡ last_before (formulas_of entries) (digest_of entry.formula) (length (formulas_of entries))
+    → ((digest : ℕ) → after digest ≡ (if digest_of entry.formula == digest then Some (length entries) else lasts digest))
+    → IsTable (entries ++ entry ∷ []) after
+table_push entries lasts after entry is new positive earlier updates =
+    record {
+      distinct = subst AreDistinct (sym formulas) (distinct_push (formulas_of entries) entry.formula is.distinct new);
+      no_negation = All-push (λ (e : Entry). is_not e.formula ≡ false) entries entry is.no_negation positive;
+      earlier = chained;
+      last = λ digest. updates digest ∙ (ap (λ o. if digest_of entry.formula == digest then Some (length entries) else o) (is.last digest) ∙ sym (last_of digest));
+    }
+  where
+    formulas : formulas_of (entries ++ entry ∷ []) ≡ formulas_of entries ++ entry.formula ∷ []
+    formulas = map-append _ entries (entry ∷ [])
+
+    same_length : length (formulas_of entries) ≡ length entries
+    same_length = length-map _ entries
+
+    stays : (digest place : ℕ) → place ≤ length entries → last_before (formulas_of (entries ++ entry ∷ [])) digest place ≡ last_before (formulas_of entries) digest place
+    stays digest place h =
+        ap (λ fs. last_before fs digest place) formulas
+        ∙ chain_grows (formulas_of entries) (entry.formula ∷ []) digest place (omega (arith, h, same_length))
+
+    last_of : (digest : ℕ) → last_before (formulas_of (entries ++ entry ∷ [])) digest (length (entries ++ entry ∷ []))
+        ≡ (if digest_of entry.formula == digest then Some (length entries) else last_before (formulas_of entries) digest (length entries))
+    last_of digest =
+        let longer : length (entries ++ entry ∷ []) ≡ suc (length (formulas_of entries)) = omega (arith, length-append entries (entry ∷ []), same_length) in
+        ap (last_before (formulas_of (entries ++ entry ∷ [])) digest) longer
+        ∙ (ap (λ fs. last_before fs digest (suc (length (formulas_of entries)))) formulas
+        ∙ (chain_push (formulas_of entries) entry.formula digest
+        ∙ ap (λ n. if digest_of entry.formula == digest then Some n else last_before (formulas_of entries) digest n) same_length))
+
+    chained : (place : ℕ) (e : Entry) → slice_get (entries ++ entry ∷ []) place ≡ Some e
+        → e.earlier ≡ last_before (formulas_of (entries ++ entry ∷ [])) (digest_of e.formula) place
+    chained place e at = elim (at_end entries place at) [
+        | inl first ↦
+            is.earlier place e first
+            ∙ sym (stays (digest_of e.formula) place (let within = slice_get_within entries place e first in omega (arith, within)))
+        | inr last ↦
+            ap (λ (e : Entry). e.earlier) (sym last.1)
+            ∙ (earlier ∙ (ap (last_before (formulas_of entries) (digest_of entry.formula)) (same_length ∙ sym last.0)
+            ∙ (sym (stays (digest_of entry.formula) place (omega (arith, last.0)))
+            ∙ ap (λ (e : Entry). last_before (formulas_of (entries ++ entry ∷ [])) (digest_of e.formula) place) last.1)))
+      ]
+      where
+        at_end : (xs : List Entry) (i : ℕ) → slice_get (xs ++ entry ∷ []) i ≡ Some e → (slice_get xs i ≡ Some e) ⊎ ((i ≡ length xs) × (entry ≡ e))
+        at_end [] zero found = inr (refl, cc)
+        at_end [] (suc i) found = cc
+        at_end (x ∷ xs) zero found = inl found
+        at_end (x ∷ xs) (suc i) found = elim (at_end xs i found) [ inl first ↦ inl first | inr last ↦ inr (ap suc last.0, last.1) ]

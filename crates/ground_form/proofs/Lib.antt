@@ -1,2 +1,4 @@
 pub mod Chains
 pub mod Literals
+pub mod Parts
+pub mod Tautologies

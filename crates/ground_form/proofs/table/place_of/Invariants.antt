@@ -9,11 +9,11 @@ abbrev room : Option ℕ → ℕ
 room None = 0
 room (Some place) = suc place
 
-abbrev pub invariant-loop-place : goal.invariant-loop-place
-invariant-loop-place l =
+abbrev pub invariant-loop-next : goal.invariant-loop-next
+invariant-loop-next l =
     (bound : ℕ) × (bound ≤ length l.entries)
     × (l.next ≡ last_before (formulas_of l.entries) (digest_of l.f) bound)
     × ((k : ℕ) → bound ≤ k → slice_get (formulas_of l.entries) k ≢ Some l.f)
 
-abbrev pub decreases-loop-place : goal.decreases-loop-place
-decreases-loop-place l = room l.next
+abbrev pub decreases-loop-next : goal.decreases-loop-next
+decreases-loop-next l = room l.next
