@@ -1,4 +1,4 @@
 pub mod Chains
+pub mod Growth
 pub mod Literals
 pub mod Parts
-pub mod Tautologies

@@ -91,12 +91,14 @@ module _ (table : List Formula) where
 
   -- a formula has one literal
   module _ (distinct : AreDistinct table) where
+    abbrev made : ℕ → Bool → Lit
+    made atom yes = record { atom = atom; yes = yes }
+
     one_atom : (f : Formula) (l k : Lit) → IsAtomOf table l f → IsAtomOf table k f → l ≡ k
-    one_atom f l k here there = by l.atom k.atom l.yes k.yes (distinct l.atom k.atom f here.0 there.0) here.1 there.1
-      where
-        by : (a b : ℕ) (y z : Bool) → a ≡ b → y ≡ true → z ≡ true
-            → Prim.the Lit (record { atom = a; yes = y }) ≡ record { atom = b; yes = z }
-        by a b y z same p q = cc
+    one_atom f l k here there =
+        let same = distinct l.atom k.atom f here.0 there.0 in
+        let sign = here.1 ∙ sym there.1 in
+        λ i. made (same i) (sign i)
 
     pub one_lit : (f : Formula) (l k : Lit) → IsLitOf table l f → IsLitOf table k f → l ≡ k
     unfolding IsLitOf hidden-the_row-Formula-0 hidden hidden-the_row-Formula-1
