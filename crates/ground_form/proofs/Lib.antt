@@ -1,4 +1,7 @@
 pub mod Chains
+pub mod Defining
+pub mod Forced
 pub mod Growth
 pub mod Literals
 pub mod Parts
+pub mod Truths

@@ -92,7 +92,7 @@ module _ (table : List Formula) where
   -- a formula has one literal
   module _ (distinct : AreDistinct table) where
     abbrev made : ℕ → Bool → Lit
-    made atom yes = record { atom = atom; yes = yes }
+    made atom sign = record { atom = atom; yes = sign }
 
     one_atom : (f : Formula) (l k : Lit) → IsAtomOf table l f → IsAtomOf table k f → l ≡ k
     one_atom f l k here there =

@@ -45,11 +45,11 @@ from_same false true e = e
 from_same false false e = refl
 
 -- they hold exactly where the truth that they define is the one that its parts give
-and_true : (b : Bool) → (b && true) ≡ b
+pub and_true : (b : Bool) → (b && true) ≡ b
 and_true true = refl
 and_true false = refl
 
-or_false : (b : Bool) → (b || false) ≡ b
+pub or_false : (b : Bool) → (b || false) ≡ b
 or_false true = refl
 or_false false = refl
 
