@@ -7,7 +7,7 @@ use Rattle.mbqi_values.specs.Clauses.{all_true, clause_true, lit_true}
 use Rattle.mbqi_values.specs.declared.lit.Lit.{Lit}
 use Rattle.mbqi_terms.specs.Binders.{IsQuantifierFree, has_quantifier, quantifier_layer}
 use Rattle.mbqi_terms.specs.declared.formula.Formula.{Formula, out-Formula}
-use Rattle.mbqi_terms.specs.declared.formula.Formula.TheFolds.{fold-roll-Formula, ind-Formula, map-Formula}
+use Rattle.mbqi_terms.specs.declared.formula.Formula.TheFolds.{ind-Formula, map-Formula}
 use Rattle.mbqi_terms.specs.declared.formula.Formula.TheOpen.{Formula-F}
 use Rattle.mbqi_terms.specs.declared.formula.Formula.TheVariants as formula
 use Rattle.mbqi_terms.specs.declared.formula.Formula.TheViews.{out-roll-Formula, roll-Formula}
@@ -18,16 +18,11 @@ use Rattle.mbqi_terms.specs.Distinct.{AreDistinct}
 use Rattle.mbqi_terms.specs.Meanings.{Meanings, truth_layer, truth_of}
 use Rattle.ground_form.specs.Clauses.{AgreeOnBase, AreClausesOf, IsAtomOf, IsLitOf}
 use Rattle.ground_form.specs.Definitions.{definition_layer, definitions_in, is_compound, is_compound_layer}
+use Rattle.ground_form.proofs.Free.{free_rolled}
 use Rattle.ground_form.proofs.Growth.{zip_cut}
 use Rattle.ground_form.proofs.Literals.{one_lit}
 use Rattle.ground_form.proofs.Parts.{definitions_of_all, definitions_of_any, definitions_of_choice, definitions_of_iff, definitions_of_not, definitions_of_truth}
 use Rattle.ground_form.proofs.Truths.{HasTruth, all_has, all_rows, all_rows_hold, and_true, any_has, any_rows, any_rows_hold, choice_has, choice_rows, choice_rows_hold, from_same, hold, iff_has, iff_rows, iff_rows_hold, not_has, or_false, rows_truth, same, truth_has, truth_rolled, truth_row_holds}
-
--- whether a quantifier stands in a formula, by its layer
-free_rolled : (f : Formula) (layer : Formula-F Formula) → roll-Formula layer ≡ f → has_quantifier f ≡ false
-    → quantifier_layer (map-Formula Formula Bool has_quantifier layer) ≡ false
-unfolding has_quantifier
-free_rolled f layer rolls free = sym (fold-roll-Formula Bool quantifier_layer layer) ∙ (ap has_quantifier rolls ∙ free)
 
 module _ (m : Meanings) (table : List Formula) (truths : ℕ → Bool) (distinct : AreDistinct table) (agree : AgreeOnBase m table truths) where
   abbrev Has : Formula → Bool → Type 0

@@ -33,6 +33,7 @@ pub fn clauses_of(alloc: Global, table: &mut AtomTable, g: &Formula) -> Result<L
     let lit = lit_of(alloc, table, g)?;
     push_clause(alloc, &mut clauses, &[lit])?;
     push_definitions(alloc, table, &mut clauses, g, lit)?;
+    table.are_distinct();
     Ok(clauses)
 }
 

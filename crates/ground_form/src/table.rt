@@ -89,6 +89,13 @@ impl AtomTable {
         self.add(copy_formula(alloc, f)?, digest, last)
     }
 
+    /// No formula stands twice: a law, for the proof of a call that has the table.
+    pub(crate) fn are_distinct(&self)
+        ensures { AreDistinct self.now }
+    {
+        let _entries = &self.entries;
+    }
+
     // Puts a formula last that isn't there yet, and whose digest the last one given has.
     fn add(
         &mut self,
