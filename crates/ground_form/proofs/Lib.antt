@@ -1,3 +1,4 @@
+pub mod Atoms
 pub mod Chains
 pub mod Defining
 pub mod Forced
