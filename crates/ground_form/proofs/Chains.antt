@@ -178,10 +178,10 @@ table_push entries lasts after entry is new positive earlier updates =
     }
   where
     formulas : formulas_of (entries ++ entry ∷ []) ≡ formulas_of entries ++ entry.formula ∷ []
-    formulas = map-append _ entries (entry ∷ [])
+    formulas = map-append (λ (e : Entry). e.formula) entries (entry ∷ [])
 
     same_length : length (formulas_of entries) ≡ length entries
-    same_length = length-map _ entries
+    same_length = length-map entries (λ (e : Entry). e.formula)
 
     stays : (digest place : ℕ) → place ≤ length entries → last_before (formulas_of (entries ++ entry ∷ [])) digest place ≡ last_before (formulas_of entries) digest place
     stays digest place h =
