@@ -1,10 +1,12 @@
 -- Tables that grow, and clauses that are added.
-use Rattle.std.proofs.Common.{◌≡◌, List, [], ◌∷◌, ◌++◌, refl, sym, ap, subst, ◌∙◌, append_assoc, append-nil}
-use Rattle.std.specs.Prelude.{All, Contains}
+use Rattle.std.proofs.Common.{◌≡◌, ℕ, zero, suc, ◌+◌, List, [], ◌∷◌, ◌++◌, take, Some, slice_get, refl, sym, ap, subst, ◌∙◌, append_assoc, append-nil}
+use Rattle.std.specs.Prelude.{All, Contains, slice_index_or}
 use Rattle.std.specs.List.{AllZip}
-use Rattle.std.proofs.lemmas.List.Elements.{All-append, All-nil, All-weaker}
+use Rattle.std.proofs.lemmas.List.Elements.{All-append, All-nil, All-weaker, Contains-append_left, Contains-append_right}
 use Rattle.mbqi_values.specs.declared.lit.Lit.{Lit}
 use Rattle.mbqi_terms.specs.declared.formula.Formula.{Formula}
+use Rattle.mbqi_terms.proofs.Trees.{take-push}
+use Rattle.mbqi_terms.proofs.Zips.{zip_push}
 use Rattle.ground_form.specs.Clauses.{AddsClauses, AreClausesOf, GrowsBy, IsLitOf}
 use Rattle.ground_form.proofs.Literals.{clauses_grow, lit_grows, lits_grow}
 
@@ -62,3 +64,24 @@ module _ (table : List Formula) where
     two.1 ∙ (ap (λ clauses. clauses ++ two.0) one.1 ∙ append_assoc before one.0 two.0),
     zip_append (AllZip (IsLitOf table)) one.0 two.0 first second one.2 two.2,
   )
+
+-- the next element of a list, and the one at a place
+pub next_zip : {A B : Type 0} (R : A → B → Type 0) (xs : List A) (ys : List B) (i : ℕ) (x : A) (y : B) → slice_get ys i ≡ Some y
+    → AllZip R xs (take i ys) → R x y → AllZip R (xs ++ x ∷ []) (take (i + 1) ys)
+next_zip R xs ys i x y at zip r = subst (AllZip R (xs ++ x ∷ [])) (sym (take-push ys i y at)) (zip_push R xs (take i ys) x y zip r)
+
+pub zip_index : {A B : Type 0} (R : A → B → Type 0) (xs : List A) (ys : List B) (i : ℕ) (d : A) (y : B) → slice_get ys i ≡ Some y
+    → AllZip R xs ys → R (slice_index_or xs i d) y
+zip_index R xs [] i d y at zip = cc
+zip_index R [] (z ∷ zs) i d y at zip = absurd zip
+zip_index R (x ∷ xs) (z ∷ zs) zero d y at zip = let same : z ≡ y = cc in subst (R x) same zip.0
+zip_index R (x ∷ xs) (z ∷ zs) (suc i) d y at zip = zip_index R xs zs i d y at zip.1
+
+-- a table that grows by some parts, and then by others
+pub grows_first : (parts others old new : List Formula) → GrowsBy parts old new → GrowsBy (parts ++ others) old new
+grows_first parts others old new = grows_wider parts (parts ++ others) old new (Contains-append_left parts others)
+
+pub grows_both : (parts others old mid new : List Formula) → GrowsBy parts old mid → GrowsBy others mid new → GrowsBy (parts ++ others) old new
+grows_both parts others old mid new first second =
+    grows_again (parts ++ others) old mid new (grows_first parts others old mid first)
+    (grows_wider others (parts ++ others) mid new (Contains-append_right parts others) second)

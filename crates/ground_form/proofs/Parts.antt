@@ -1,7 +1,8 @@
 -- The parts of formulas and the clauses that define them, by the kinds of formulas.
-use Rattle.std.proofs.Common.{◌≡◌, ℕ, Bool, true, false, if◌then◌else◌, List, [], ◌∷◌, ◌++◌, map, refl, sym, ap, subst, ◌∙◌, arith}
+use Rattle.std.proofs.Common.{◌≡◌, ℕ, zero, suc, ◌+◌, ◌≤◌, take, Some, slice_get, append-nil, length, Bool, true, false, if◌then◌else◌, List, [], ◌∷◌, ◌++◌, map, refl, sym, ap, subst, ◌∙◌, arith}
 use Rattle.std.specs.Prelude.{Contains}
 use Rattle.std.specs.List.{flat_map}
+use Rattle.std.proofs.lemmas.List.{take_all}
 use Rattle.std.proofs.lemmas.List.Concat.{flat_map-append}
 use Rattle.std.proofs.lemmas.List.Elements.{Contains-append_left, Contains-append_right}
 use Rattle.mbqi_terms.specs.declared.formula.Formula.{Formula, Row_of-Formula, end_of-Formula, more_of-Formula, out-Formula}
@@ -14,9 +15,11 @@ use denote.Hole.Carrier.{hidden}
 use Rattle.mbqi_terms.specs.declared.sort.Binder.{Binder}
 use Rattle.mbqi_terms.specs.declared.term.ArrayTerm.{ArrayTerm}
 use Rattle.mbqi_terms.specs.declared.term.Term.{Term}
-use Rattle.ground_form.specs.Clauses.{GrowsBy}
+use Rattle.ground_form.specs.Clauses.{AddsClauses, GrowsBy}
+use Rattle.mbqi_values.specs.declared.lit.Lit.{Lit}
+use Rattle.mbqi_terms.proofs.Trees.{take-push}
 use Rattle.ground_form.specs.Definitions.{definition_layer, definition_of, definitions_in, parts_in, parts_in_all}
-use Rattle.ground_form.proofs.Growth.{grows_wider}
+use Rattle.ground_form.proofs.Growth.{adds_again, grows_again, grows_wider}
 
 -- the parts below a conjunction or a disjunction, as of a list
 abbrev parts_below : Formula → List Formula
@@ -91,34 +94,48 @@ module _ (whole : Formula) (old new : List Formula) where
   pub grows_below_any : (fs : List Formula) → whole ≡ formula.Any fs → GrowsBy (flat_map parts_in fs) old new → GrowsBy (parts_in whole) old new
   grows_below_any fs is = below (flat_map parts_in fs) (ap parts_in is ∙ (parts_of_any fs ∙ ap (λ g. g ∷ flat_map parts_in fs) (sym is)))
 
-  below_iff : (f g : Formula) → whole ≡ formula.Iff f g → GrowsBy (parts_in f ++ parts_in g) old new → GrowsBy (parts_in whole) old new
-  below_iff f g is = below (parts_in f ++ parts_in g)
+  pub grows_below_iff : (f g : Formula) → whole ≡ formula.Iff f g → GrowsBy (parts_in f ++ parts_in g) old new → GrowsBy (parts_in whole) old new
+  grows_below_iff f g is = below (parts_in f ++ parts_in g)
       (ap parts_in is ∙ (parts_of_iff f g ∙ ap (λ h. h ∷ (parts_in f ++ parts_in g)) (sym is)))
 
   pub grows_below_left : (f g : Formula) → whole ≡ formula.Iff f g → GrowsBy (parts_in f) old new → GrowsBy (parts_in whole) old new
-  grows_below_left f g is grows = below_iff f g is (grows_wider (parts_in f) (parts_in f ++ parts_in g) old new
+  grows_below_left f g is grows = grows_below_iff f g is (grows_wider (parts_in f) (parts_in f ++ parts_in g) old new
       (Contains-append_left (parts_in f) (parts_in g)) grows)
 
   pub grows_below_right : (f g : Formula) → whole ≡ formula.Iff f g → GrowsBy (parts_in g) old new → GrowsBy (parts_in whole) old new
-  grows_below_right f g is grows = below_iff f g is (grows_wider (parts_in g) (parts_in f ++ parts_in g) old new
+  grows_below_right f g is grows = grows_below_iff f g is (grows_wider (parts_in g) (parts_in f ++ parts_in g) old new
       (Contains-append_right (parts_in f) (parts_in g)) grows)
 
-  below_choice : (c f g : Formula) → whole ≡ formula.Choose c f g → GrowsBy (parts_in c ++ (parts_in f ++ parts_in g)) old new
+  pub grows_below_choice : (c f g : Formula) → whole ≡ formula.Choose c f g → GrowsBy (parts_in c ++ (parts_in f ++ parts_in g)) old new
       → GrowsBy (parts_in whole) old new
-  below_choice c f g is = below (parts_in c ++ (parts_in f ++ parts_in g))
+  grows_below_choice c f g is = below (parts_in c ++ (parts_in f ++ parts_in g))
       (ap parts_in is ∙ (parts_of_choice c f g ∙ ap (λ h. h ∷ (parts_in c ++ (parts_in f ++ parts_in g))) (sym is)))
 
   pub grows_below_condition : (c f g : Formula) → whole ≡ formula.Choose c f g → GrowsBy (parts_in c) old new → GrowsBy (parts_in whole) old new
-  grows_below_condition c f g is grows = below_choice c f g is (grows_wider (parts_in c) (parts_in c ++ (parts_in f ++ parts_in g)) old new
+  grows_below_condition c f g is grows = grows_below_choice c f g is (grows_wider (parts_in c) (parts_in c ++ (parts_in f ++ parts_in g)) old new
       (Contains-append_left (parts_in c) (parts_in f ++ parts_in g)) grows)
 
   pub grows_below_yes : (c f g : Formula) → whole ≡ formula.Choose c f g → GrowsBy (parts_in f) old new → GrowsBy (parts_in whole) old new
-  grows_below_yes c f g is grows = below_choice c f g is (grows_wider (parts_in f) (parts_in c ++ (parts_in f ++ parts_in g)) old new
+  grows_below_yes c f g is grows = grows_below_choice c f g is (grows_wider (parts_in f) (parts_in c ++ (parts_in f ++ parts_in g)) old new
       (λ h has. Contains-append_right (parts_in c) (parts_in f ++ parts_in g) h (Contains-append_left (parts_in f) (parts_in g) h has)) grows)
 
   pub grows_below_no : (c f g : Formula) → whole ≡ formula.Choose c f g → GrowsBy (parts_in g) old new → GrowsBy (parts_in whole) old new
-  grows_below_no c f g is grows = below_choice c f g is (grows_wider (parts_in g) (parts_in c ++ (parts_in f ++ parts_in g)) old new
+  grows_below_no c f g is grows = grows_below_choice c f g is (grows_wider (parts_in g) (parts_in c ++ (parts_in f ++ parts_in g)) old new
       (λ h has. Contains-append_right (parts_in c) (parts_in f ++ parts_in g) h (Contains-append_right (parts_in f) (parts_in g) h has)) grows)
+
+-- a table that grows by the parts of one of several formulas
+in_some : (fs : List Formula) (i : ℕ) (part : Formula) → slice_get fs i ≡ Some part → (f : Formula) → Contains (parts_in part) f
+    → Contains (flat_map parts_in fs) f
+in_some [] i part at f has = cc
+in_some (g ∷ gs) zero part at f has =
+    let same : g ≡ part = cc in
+    Contains-append_left (parts_in g) (flat_map parts_in gs) f (subst (λ h. Contains (parts_in h) f) (sym same) has)
+in_some (g ∷ gs) (suc i) part at f has = Contains-append_right (parts_in g) (flat_map parts_in gs) f (in_some gs i part at f has)
+
+pub grows_at : (fs : List Formula) (i : ℕ) (part : Formula) → slice_get fs i ≡ Some part → (old mid new : List Formula)
+    → GrowsBy (flat_map parts_in fs) old mid → GrowsBy (parts_in part) mid new → GrowsBy (flat_map parts_in fs) old new
+grows_at fs i part at old mid new first second =
+    grows_again (flat_map parts_in fs) old mid new first (grows_wider (parts_in part) (flat_map parts_in fs) mid new (in_some fs i part at) second)
 
 -- the definition of a formula by its layer
 defined : (layer : Formula-F Formula) (f : Formula) → roll-Formula layer ≡ f → definition_of f ≡ definition_layer f layer
@@ -192,3 +209,18 @@ definitions_of_forall bs f = with_own (Formula-F.Forall bs f) (formula.Forall bs
 pub definitions_of_exists : (bs : List Binder) (f : Formula) → definitions_in (formula.Exists bs f) ≡ []
 unfolding parts_in hidden-the_row-Formula-0 hidden hidden-the_row-Formula-1
 definitions_of_exists bs f = with_own (Formula-F.Exists bs f) (formula.Exists bs f) [] [] (formula.rolls-Exists bs f) refl refl
+
+-- the clauses that define the formulas of a list, one after the other
+module _ (table : List Formula) (before mid after : List (List Lit)) (fs : List Formula) (i : ℕ) where
+  pub adds_next : (part : Formula) → slice_get fs i ≡ Some part → AddsClauses table before mid (flat_map definitions_in (take i fs))
+      → AddsClauses table mid after (definitions_in part) → AddsClauses table before after (flat_map definitions_in (take (i + 1) fs))
+  adds_next part at first second =
+      let longer : flat_map definitions_in (take (i + 1) fs) ≡ flat_map definitions_in (take i fs) ++ definitions_in part =
+      ap (flat_map definitions_in) (take-push fs i part at)
+      ∙ (flat_map-append definitions_in (take i fs) (part ∷ []) ∙ ap (λ rows. flat_map definitions_in (take i fs) ++ rows) (append-nil (definitions_in part))) in
+      subst (AddsClauses table before after) (sym longer)
+      (adds_again table before mid after (flat_map definitions_in (take i fs)) (definitions_in part) first second)
+
+pub adds_whole : (table : List Formula) (before after : List (List Lit)) (fs : List Formula) (i : ℕ) → length fs ≤ i
+    → AddsClauses table before after (flat_map definitions_in (take i fs)) → AddsClauses table before after (flat_map definitions_in fs)
+adds_whole table before after fs i all adds = subst (λ gs. AddsClauses table before after (flat_map definitions_in gs)) (take_all i fs all) adds

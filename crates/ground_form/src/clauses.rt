@@ -55,6 +55,7 @@ fn lit_of(alloc: Global, table: &mut AtomTable, f: &Formula) -> Result<Lit, Allo
 fn lits_of(alloc: Global, table: &mut AtomTable, parts: &[Formula]) -> Result<Lits, AllocError>
     ensures grows { GrowsBy (flat_map parts_in parts.now) table.old table.new }
     ensures lits { IfOk result (λ lits. AllZip (IsLitOf table.new) lits parts.now) }
+    ensures count { IfOk result (λ lits. length lits ≡ length parts.now) }
 {
     let mut lits = Lits::new(alloc);
     for part in parts {
@@ -72,10 +73,8 @@ fn push_definitions(
     f: &Formula,
     lit: Lit,
 ) -> Result<(), AllocError>
-    requires free { IsQuantifierFree f.now }
-    requires lit { IsLitOf table.old lit f.now }
     ensures grows { GrowsBy (parts_in f.now) table.old table.new }
-    ensures clauses { OnOk result (AddsClauses table.new clauses.old clauses.new (definitions_in f.now)) }
+    ensures clauses { IsLitOf table.old lit f.now → OnOk result (AddsClauses table.new clauses.old clauses.new (definitions_in f.now)) }
 {
     match f {
         Formula::Truth(truth) => {
@@ -83,21 +82,19 @@ fn push_definitions(
         }
         Formula::Not(part) => push_definitions(alloc, table, clauses, part.get(), lit.negated()),
         Formula::All(parts) => {
-            let lits = lits_of(alloc, table, parts.as_slice())?;
-            push_conjunction(alloc, clauses, lit, lits.as_slice())?;
-            push_all_definitions(alloc, table, clauses, parts.as_slice(), lits.as_slice())
+            let parts = parts.as_slice();
+            let lits = define_all(alloc, table, clauses, lit, parts)?;
+            push_all_definitions(alloc, table, clauses, parts, lits.as_slice())
         }
         Formula::Any(parts) => {
-            let lits = lits_of(alloc, table, parts.as_slice())?;
-            push_disjunction(alloc, clauses, lit, lits.as_slice())?;
-            push_all_definitions(alloc, table, clauses, parts.as_slice(), lits.as_slice())
+            let parts = parts.as_slice();
+            let lits = define_any(alloc, table, clauses, lit, parts)?;
+            push_all_definitions(alloc, table, clauses, parts, lits.as_slice())
         }
         Formula::Iff(left, right) => {
             let left = left.get();
             let right = right.get();
-            let first = lit_of(alloc, table, left)?;
-            let second = lit_of(alloc, table, right)?;
-            push_equivalence(alloc, clauses, lit, first, second)?;
+            let (first, second) = define_iff(alloc, table, clauses, lit, left, right)?;
             push_definitions(alloc, table, clauses, left, first)?;
             push_definitions(alloc, table, clauses, right, second)
         }
@@ -105,10 +102,8 @@ fn push_definitions(
             let condition = condition.get();
             let yes = yes.get();
             let no = no.get();
-            let chooses = lit_of(alloc, table, condition)?;
-            let first = lit_of(alloc, table, yes)?;
-            let second = lit_of(alloc, table, no)?;
-            push_choice(alloc, clauses, lit, chooses, first, second)?;
+            let (chooses, first, second) =
+                define_choice(alloc, table, clauses, lit, condition, yes, no)?;
             push_definitions(alloc, table, clauses, condition, chooses)?;
             push_definitions(alloc, table, clauses, yes, first)?;
             push_definitions(alloc, table, clauses, no, second)
@@ -126,15 +121,94 @@ fn push_all_definitions(
     parts: &[Formula],
     lits: &[Lit],
 ) -> Result<(), AllocError>
-    requires free { All IsQuantifierFree parts.now }
-    requires lits { AllZip (IsLitOf table.old) lits.now parts.now }
+    requires { length lits.now ≡ length parts.now }
     ensures grows { GrowsBy (flat_map parts_in parts.now) table.old table.new }
-    ensures clauses { OnOk result (AddsClauses table.new clauses.old clauses.new (flat_map definitions_in parts.now)) }
+    ensures clauses { AllZip (IsLitOf table.old) lits.now parts.now
+        → OnOk result (AddsClauses table.new clauses.old clauses.new (flat_map definitions_in parts.now)) }
 {
     for at in 0..parts.len() {
         push_definitions(alloc, table, clauses, &parts[at], lits[at])?;
     }
     Ok(())
+}
+
+// Pushes the clauses that define a literal as the conjunction of the formulas, and answers their literals.
+fn define_all(
+    alloc: Global,
+    table: &mut AtomTable,
+    clauses: &mut LitLists,
+    lit: Lit,
+    parts: &[Formula],
+) -> Result<Lits, AllocError>
+    ensures grows { GrowsBy (flat_map parts_in parts.now) table.old table.new }
+    ensures lits { IfOk result (λ lits. AllZip (IsLitOf table.new) lits parts.now) }
+    ensures count { IfOk result (λ lits. length lits ≡ length parts.now) }
+    ensures clauses { IfOk result (λ lits. clauses.new ≡ clauses.old ++ conjunction_rows lit lits) }
+{
+    let lits = lits_of(alloc, table, parts)?;
+    push_conjunction(alloc, clauses, lit, lits.as_slice())?;
+    Ok(lits)
+}
+
+// Pushes the clauses that define a literal as the disjunction of the formulas, and answers their literals.
+fn define_any(
+    alloc: Global,
+    table: &mut AtomTable,
+    clauses: &mut LitLists,
+    lit: Lit,
+    parts: &[Formula],
+) -> Result<Lits, AllocError>
+    ensures grows { GrowsBy (flat_map parts_in parts.now) table.old table.new }
+    ensures lits { IfOk result (λ lits. AllZip (IsLitOf table.new) lits parts.now) }
+    ensures count { IfOk result (λ lits. length lits ≡ length parts.now) }
+    ensures clauses { IfOk result (λ lits. clauses.new ≡ clauses.old ++ disjunction_rows lit lits) }
+{
+    let lits = lits_of(alloc, table, parts)?;
+    push_disjunction(alloc, clauses, lit, lits.as_slice())?;
+    Ok(lits)
+}
+
+// Pushes the clauses that define a literal as that two formulas have one truth, and answers their literals.
+fn define_iff(
+    alloc: Global,
+    table: &mut AtomTable,
+    clauses: &mut LitLists,
+    lit: Lit,
+    left: &Formula,
+    right: &Formula,
+) -> Result<(Lit, Lit), AllocError>
+    ensures grows { GrowsBy (parts_in left.now ++ parts_in right.now) table.old table.new }
+    ensures left { IfOk result (λ lits. IsLitOf table.new lits.0 left.now) }
+    ensures right { IfOk result (λ lits. IsLitOf table.new lits.1 right.now) }
+    ensures clauses { IfOk result (λ lits. clauses.new ≡ clauses.old ++ equivalence_rows lit lits.0 lits.1) }
+{
+    let first = lit_of(alloc, table, left)?;
+    let second = lit_of(alloc, table, right)?;
+    push_equivalence(alloc, clauses, lit, first, second)?;
+    Ok((first, second))
+}
+
+// Pushes the clauses that define a literal as a choice between two formulas, and answers the three formulas' literals.
+fn define_choice(
+    alloc: Global,
+    table: &mut AtomTable,
+    clauses: &mut LitLists,
+    lit: Lit,
+    condition: &Formula,
+    yes: &Formula,
+    no: &Formula,
+) -> Result<(Lit, Lit, Lit), AllocError>
+    ensures grows { GrowsBy (parts_in condition.now ++ (parts_in yes.now ++ parts_in no.now)) table.old table.new }
+    ensures condition { IfOk result (λ lits. IsLitOf table.new lits.0 condition.now) }
+    ensures yes { IfOk result (λ lits. IsLitOf table.new lits.1 yes.now) }
+    ensures no { IfOk result (λ lits. IsLitOf table.new lits.2 no.now) }
+    ensures clauses { IfOk result (λ lits. clauses.new ≡ clauses.old ++ choice_rows lit lits.0 lits.1 lits.2) }
+{
+    let chooses = lit_of(alloc, table, condition)?;
+    let first = lit_of(alloc, table, yes)?;
+    let second = lit_of(alloc, table, no)?;
+    push_choice(alloc, clauses, lit, chooses, first, second)?;
+    Ok((chooses, first, second))
 }
 
 fn push_clause(alloc: Global, clauses: &mut LitLists, lits: &[Lit]) -> Result<(), AllocError>

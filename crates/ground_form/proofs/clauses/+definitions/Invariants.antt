@@ -8,6 +8,5 @@ use Rattle.ground_form.proofs.clauses.+definitions.Given as goal
 abbrev pub invariant-push_all_definitions-loop-at : goal.invariant-push_all_definitions-loop-at
 invariant-push_all_definitions-loop-at l = record {
   grows : GrowsBy (flat_map parts_in l.parts) l.fn.table l.table;
-  lits : AllZip (IsLitOf l.table) l.lits l.parts;
-  clauses : AddsClauses l.table l.fn.clauses l.clauses (flat_map definitions_in (take l.at l.parts));
+  clauses : AllZip (IsLitOf l.fn.table) l.lits l.parts → AddsClauses l.table l.fn.clauses l.clauses (flat_map definitions_in (take l.at l.parts));
 }
