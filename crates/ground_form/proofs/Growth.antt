@@ -1,6 +1,6 @@
 -- Tables that grow, and clauses that are added.
 use Rattle.std.proofs.Common.{◌≡◌, ℕ, zero, suc, ◌+◌, List, [], ◌∷◌, ◌++◌, take, Some, slice_get, refl, sym, ap, subst, ◌∙◌, append_assoc, append-nil}
-use Rattle.std.specs.Prelude.{All, Contains, slice_index_or}
+use Rattle.std.specs.Prelude.{All, Contains, slice_index_or, Result, Ok, Err, OnOk}
 use Rattle.std.specs.List.{AllZip}
 use Rattle.std.proofs.lemmas.List.Elements.{All-append, All-nil, All-weaker, Contains-append_left, Contains-append_right}
 use Rattle.mbqi_values.specs.declared.lit.Lit.{Lit}
@@ -85,3 +85,8 @@ pub grows_both : (parts others old mid new : List Formula) → GrowsBy parts old
 grows_both parts others old mid new first second =
     grows_again (parts ++ others) old mid new (grows_first parts others old mid first)
     (grows_wider others (parts ++ others) mid new (Contains-append_right parts others) second)
+
+-- what follows from what holds after a call that succeeded
+pub on_ok : {T E : Type 0} (r : Result T E) (P Q : Type 0) → (P → Q) → OnOk r P → OnOk r Q
+on_ok (Ok x) P Q f p = f p
+on_ok (Err e) P Q f p = tt

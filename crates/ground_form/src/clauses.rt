@@ -7,7 +7,7 @@ ghost use Rattle.mbqi_terms.specs.Binders.{IsQuantifierFree};
 ghost use Rattle.mbqi_terms.specs.Meanings.{Meanings, truth_of};
 ghost use Rattle.ground_form.specs.Clauses.{AddsClauses, AgreeOnBase, AreClausesOf, GrowsBy, IsLitOf, negated, truths_in};
 ghost use Rattle.ground_form.specs.Definitions.{definitions_in, parts_in};
-ghost use Rattle.ground_form.specs.Rows.{choice_rows, conjunction_rows, disjunction_rows, equivalence_rows};
+ghost use Rattle.ground_form.specs.Rows.{choice_rows, conjunction_rows, constant_rows, disjunction_rows, equivalence_rows};
 
 use crate::table::AtomTable;
 use mbqi_terms::Formula;
@@ -77,9 +77,7 @@ fn push_definitions(
     ensures clauses { IsLitOf table.old lit f.now → OnOk result (AddsClauses table.new clauses.old clauses.new (definitions_in f.now)) }
 {
     match f {
-        Formula::Truth(truth) => {
-            push_clause(alloc, clauses, &[if *truth { lit } else { lit.negated() }])
-        }
+        Formula::Truth(truth) => push_constant(alloc, clauses, lit, *truth),
         Formula::Not(part) => push_definitions(alloc, table, clauses, part.get(), lit.negated()),
         Formula::All(parts) => {
             let parts = parts.as_slice();
@@ -130,6 +128,19 @@ fn push_all_definitions(
         push_definitions(alloc, table, clauses, &parts[at], lits[at])?;
     }
     Ok(())
+}
+
+// The clause that says that a literal is true, or that it is false.
+fn push_constant(
+    alloc: Global,
+    clauses: &mut LitLists,
+    lit: Lit,
+    truth: bool,
+) -> Result<(), AllocError>
+    ensures { OnOk result (clauses.new ≡ clauses.old ++ constant_rows truth lit) }
+{
+    let unit = if truth { lit } else { lit.negated() };
+    push_clause(alloc, clauses, &[unit])
 }
 
 // Pushes the clauses that define a literal as the conjunction of the formulas, and answers their literals.
