@@ -1,17 +1,22 @@
-use Rattle.std.proofs.Common.{ℕ, zero, suc, ◌≡◌, ◌==◌, ◌&&◌, ◌||◌, Bool, true, false, not, cond, List, [], ◌∷◌, ◌++◌, find, take, None, Some, refl, sym, ap, ◌∙◌, subst, ⊎_elim, eqb, eq-eqb}
+use Rattle.std.proofs.Common.{ℕ, zero, suc, ◌≡◌, ◌==◌, ◌&&◌, ◌||◌, ◌⊎◌, inl, inr, Bool, true, false, not, cond, List, [], ◌∷◌, ◌++◌, find, take, Contains, None, Some, IfSome, refl, sym, ap, ◌∙◌, subst, ⊎_elim, eqb, eq-eqb, arith}
 use Rattle.std.specs.List.{list_all, list_any}
 use Rattle.std.proofs.lemmas.Bool.{and_from, and_parts, cases_Bool, eqb-true, false≢true, not-true, not_from_false, or_cases, or_left, or_right}
+use Rattle.std.proofs.lemmas.List.Elements.{All-cons, All-nil, Contains-append_left, Contains-push}
 use Rattle.std.proofs.lemmas.List.Folds.{list_all-append}
 use Rattle.mbqi_values.specs.Clauses.{lit_true}
 use Rattle.mbqi_values.specs.declared.lit.Lit.{Lit}
+use Rattle.mbqi_values.specs.declared.value.Value.{Value}
+use Rattle.theory_trait.specs.Assumed.{clashed_by}
+use Rattle.theory_trait.specs.Content.{AreAmong, IsFree}
+use Rattle.theory_trait.specs.declared.theory.Assumed.{Assumed}
+use Rattle.theory_trait.specs.declared.theory.Assumed.TheVariants.{Agree, Clash}
 use Rattle.theory_trait.specs.Free.{IsFreelyLawful}
-use Rattle.theory_trait.specs.Valuation.{lits_true, HasNone, HasValuation}
-use Rattle.theory_search.specs.AtMostOne.{at_most_one, IsLawful}
+use Rattle.theory_trait.specs.Valuation.{lits_true, HasNone, HasValuation, Satisfies}
+use Rattle.theory_search.specs.AtMostOne.{at_most_one, is_clash, keeps_clash, refused_by, IsLawful}
 use Rattle.theory_search.specs.Resolvent.{contains_lit, same_lit}
 use Rattle.theory_search.proofs.Resolution.{same_lit-equal}
 
 -- Contents of which at most one literal takes its atom as true.
-
 
 -- The truths that are true only where such a literal is.
 abbrev trues_of : List Lit → ℕ → Bool
@@ -75,8 +80,12 @@ pub has_sole : (atoms : ℕ) (lits : List Lit) → at_most_one lits ≡ true →
 has_sole atoms lits one has =
     ([], (trues_of lits, (refl, λ a b. sole_true lits a b one), hold_by_trues has.1.0 lits lits has.1.2 has.1.2 (λ atom is. is)))
 
+pub sole_settled : (atoms : ℕ) (lits : List Lit) (values : List Value) → values ≡ [] → at_most_one lits ≡ true → HasValuation (IsFreelyLawful atoms) lits → Satisfies (IsLawful atoms) lits values
+sole_settled atoms lits values none one has =
+    (trues_of lits, (none, λ a b. sole_true lits a b one), hold_by_trues has.1.0 lits lits has.1.2 has.1.2 (λ atom is. is))
+
 -- One more literal keeps that, if it takes its atom as false, or none took it as true.
-pub one_more_false : (lits : List Lit) (lit : Lit) → lit.yes ≡ false → at_most_one lits ≡ true → at_most_one (lits ++ lit ∷ []) ≡ true
+one_more_false : (lits : List Lit) (lit : Lit) → lit.yes ≡ false → at_most_one lits ≡ true → at_most_one (lits ++ lit ∷ []) ≡ true
 one_more_false [] lit fails one = rw fails refl
 one_more_false (l ∷ lits) lit fails one =
     (elim l.yes as (λ yes. cond yes (list_all (λ (other : Lit). not other.yes) lits) (at_most_one lits) ≡ true → cond yes (list_all (λ (other : Lit). not other.yes) (lits ++ lit ∷ [])) (at_most_one (lits ++ lit ∷ [])) ≡ true) [
@@ -84,10 +93,15 @@ one_more_false (l ∷ lits) lit fails one =
       | false ↦ λ rest. one_more_false lits lit fails rest
     ]) one
 
-pub first_true : (lits : List Lit) (lit : Lit) → find (λ l. l.yes) lits ≡ None → at_most_one (lits ++ lit ∷ []) ≡ true
+first_true : (lits : List Lit) (lit : Lit) → find (λ l. l.yes) lits ≡ None → at_most_one (lits ++ lit ∷ []) ≡ true
 first_true [] lit none = elim lit.yes as (λ yes. cond yes true true ≡ true) [ true ↦ refl | false ↦ refl ]
 first_true (l ∷ lits) lit none =
     (elim l.yes as (λ yes. cond yes (Some l) (find (λ (x : Lit). x.yes) lits) ≡ None → cond yes (list_all (λ (other : Lit). not other.yes) (lits ++ lit ∷ [])) (at_most_one (lits ++ lit ∷ [])) ≡ true) [ true ↦ λ h. cc | false ↦ λ h. first_true lits lit h ]) none
+
+-- One more literal where none is taken as true, or it isn't.
+pub one_more : (content : List Lit) (lit : Lit) → (find (λ l. l.yes) content ≡ None) ⊎ (lit.yes ≡ false) → at_most_one content ≡ true → at_most_one (content ++ lit ∷ []) ≡ true
+one_more content lit (inl none) one = first_true content lit none
+one_more content lit (inr fails) one = one_more_false content lit fails one
 
 all-take : (p : Lit → Bool) (n : ℕ) (lits : List Lit) → list_all p lits ≡ true → list_all p (take n lits) ≡ true
 all-take p zero lits is = refl
@@ -151,3 +165,56 @@ content_has_none atoms lits one other member yes_one yes_other differ values v l
     let parts = and_parts (lits_true v lits) (lits_true v (other ∷ [])) (sym (list_all-append (lit_true v) lits (other ∷ [])) ∙ hold) in
     let rest = and_parts (lit_true v other) true parts.1 in
     both_true v one other law.1 yes_one yes_other differ (contains_true v lits one member parts.0) rest.0)
+
+-- What a clash keeps: the literal that is found is among them, and of another atom than the free one.
+free_differs : (lits : List Lit) (lit : Lit) (atom : ℕ) → contains_lit lits lit ≡ true → IsFree lits atom → eqb lit.atom atom ≡ false
+free_differs [] lit atom member free = absurd (false≢true member)
+free_differs (l ∷ lits) lit atom member free =
+    let parts = and_parts (not (eqb l.atom atom)) (list_all (λ (x : Lit). not (eqb x.atom atom)) lits) free in
+    ⊎_elim
+    (λ (here : same_lit l lit ≡ true). subst (λ (x : Lit). eqb x.atom atom ≡ false) (same_lit-equal l lit here) (not-true (eqb l.atom atom) parts.0))
+    (λ (there : contains_lit lits lit ≡ true). free_differs lits lit atom there parts.1)
+    (or_cases (same_lit l lit) (contains_lit lits lit) member)
+
+pub clash_kept : (content : List Lit) (other lit : Lit) → find (λ l. l.yes) content ≡ Some other → lit.yes ≡ true → IsFree content lit.atom → is_clash content (other ∷ lit ∷ []) ≡ true
+clash_kept content other lit found holds free =
+    let among = found_among content other found in
+    let differ = not_from_false (eqb other.atom lit.atom) (free_differs content other lit.atom among.0 free) in
+    and_from _ _ (and_from _ _ (and_from _ _ among.0 among.1) holds) differ
+
+pub clash_has_none : (atoms : ℕ) (content : List Lit) (other lit : Lit) → find (λ l. l.yes) content ≡ Some other → lit.yes ≡ true → IsFree content lit.atom → HasNone (IsLawful atoms) (content ++ lit ∷ [])
+clash_has_none atoms content other lit found holds free =
+    let among = found_among content other found in
+    content_has_none atoms content other lit among.0 among.1 holds (free_differs content other lit.atom among.0 free)
+
+-- What is lent is of the content, or the literal that clashed.
+contains_from : (lits : List Lit) (lit : Lit) → contains_lit lits lit ≡ true → Contains lits lit
+contains_from [] lit is = absurd (false≢true is)
+contains_from (l ∷ lits) lit is =
+    ⊎_elim
+    (λ (here : same_lit l lit ≡ true). (0, omega arith, same_lit-equal l lit here))
+    (λ (there : contains_lit lits lit ≡ true).
+    (let rest = contains_from lits lit there in
+    (suc rest.0, omega (arith, rest.1), rest.2)))
+    (or_cases (same_lit l lit) (contains_lit lits lit) is)
+
+lent_among : (content pair : List Lit) → is_clash content pair ≡ true → IfSome (refused_by true pair) (λ lit. AreAmong (content ++ lit ∷ []) pair)
+lent_among content [] kept = tt
+lent_among content (one ∷ []) kept = tt
+lent_among content (one ∷ other ∷ []) kept =
+    let all = and_parts (contains_lit content one && one.yes && other.yes) (not (eqb one.atom other.atom)) kept in
+    let both = and_parts (contains_lit content one && one.yes) other.yes all.0 in
+    let parts = and_parts (contains_lit content one) one.yes both.0 in
+    let those : List Lit = content ++ other ∷ [] in
+    All-cons (Contains those) one (other ∷ []) (Contains-append_left content (other ∷ []) one (contains_from content one parts.0))
+    (All-cons (Contains those) other [] (Contains-push content other) (All-nil _))
+lent_among content (one ∷ other ∷ more ∷ rest) kept = absurd (false≢true kept)
+
+pub lent : (clashed : Bool) (content pair : List Lit) → clashed ≡ true → keeps_clash clashed content pair ≡ true → IfSome (refused_by clashed pair) (λ lit. AreAmong (content ++ lit ∷ []) pair)
+lent true content pair is kept = lent_among content pair kept
+lent false content pair is kept = absurd (false≢true is)
+
+-- The free theory never clashes.
+pub agreed : (assumed : Assumed) (lit : Lit) → None ≡ clashed_by assumed lit → assumed ≡ Agree
+agreed Agree lit none = refl
+agreed Clash lit none = cc
