@@ -11,7 +11,8 @@ use Rattle.theory_search.specs.declared.step.Step.{Step}
 abbrev pub frame_of : Step → ℕ → List ℕ
 frame_of step before = cond (is_chosen step.reason) (before ∷ []) []
 
-pub choices_from-push : (before : ℕ) (steps : List Step) (step : Step) → choices_from before (steps ++ step ∷ []) ≡ choices_from before steps ++ frame_of step (before + length steps)
+pub choices_from-push : (before : ℕ) (steps : List Step) (step : Step)
+    → choices_from before (steps ++ step ∷ []) ≡ choices_from before steps ++ frame_of step (before + length steps)
 choices_from-push before [] step = ap (frame_of step) (omega arith)
 choices_from-push before (s ∷ steps) step =
     let rest = choices_from-push (before + 1) steps step in
@@ -20,11 +21,13 @@ choices_from-push before (s ∷ steps) step =
     elim (is_chosen s.reason) as (λ b. cond b (before ∷ choices_from (before + 1) (steps ++ step ∷ [])) (choices_from (before + 1) (steps ++ step ∷ [])) ≡ cond b (before ∷ choices_from (before + 1) steps) (choices_from (before + 1) steps) ++ frame_of step (before + length (s ∷ steps))) [ true ↦ ap (λ (fs : List ℕ). before ∷ fs) last | false ↦ last ]
 
 -- A step that is implied opens none, and a choice one.
-pub choices_from-implied : (steps : List Step) (step : Step) → is_chosen step.reason ≡ false → choices_from 0 (steps ++ step ∷ []) ≡ choices_from 0 steps
+pub choices_from-implied : (steps : List Step) (step : Step) → is_chosen step.reason ≡ false
+    → choices_from 0 (steps ++ step ∷ []) ≡ choices_from 0 steps
 choices_from-implied steps step implied =
     choices_from-push 0 steps step ∙ (ap (λ (b : Bool). choices_from 0 steps ++ cond b ((0 + length steps) ∷ []) []) implied ∙ append-nil (choices_from 0 steps))
 
-pub choices_from-chosen : (steps : List Step) (step : Step) → is_chosen step.reason ≡ true → choices_from 0 (steps ++ step ∷ []) ≡ choices_from 0 steps ++ length steps ∷ []
+pub choices_from-chosen : (steps : List Step) (step : Step) → is_chosen step.reason ≡ true
+    → choices_from 0 (steps ++ step ∷ []) ≡ choices_from 0 steps ++ length steps ∷ []
 choices_from-chosen steps step chosen =
     let zero_plus : 0 + length steps ≡ length steps = omega arith in
     choices_from-push 0 steps step ∙ (ap (λ (b : Bool). choices_from 0 steps ++ cond b ((0 + length steps) ∷ []) []) chosen ∙ ap (λ (n : ℕ). choices_from 0 steps ++ n ∷ []) zero_plus)

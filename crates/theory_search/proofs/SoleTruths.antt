@@ -1,6 +1,8 @@
-use Rattle.std.proofs.Common.{ℕ, zero, suc, ◌≡◌, ◌==◌, ◌&&◌, ◌||◌, ◌⊎◌, inl, inr, Bool, true, false, not, cond, List, [], ◌∷◌, ◌++◌, find, take, Contains, None, Some, IfSome, refl, sym, ap, ◌∙◌, subst, ⊎_elim, eqb, eq-eqb, arith}
+use Rattle.std.proofs.Common.{ℕ, zero, suc, ◌≡◌, ◌==◌, ◌&&◌, ◌||◌, ◌⊎◌, inl, inr, Bool, true, false, not, cond, List, [], ◌∷◌, ◌++◌, find}
+use Rattle.std.proofs.Common.{take, Contains, None, Some, IfSome, refl, sym, ap, ◌∙◌, subst, ⊎_elim, eqb, eq-eqb, arith}
 use Rattle.std.specs.List.{list_all, list_any}
-use Rattle.std.proofs.lemmas.Bool.{and_from, and_parts, cases_Bool, eqb-true, false≢true, not-true, not_from_false, or_cases, or_left, or_right}
+use Rattle.std.proofs.lemmas.Bool.{and_from, and_parts, cases_Bool, eqb-true, false≢true, not-true, not_from_false, or_cases, or_left}
+use Rattle.std.proofs.lemmas.Bool.{or_right}
 use Rattle.std.proofs.lemmas.List.Elements.{All-cons, All-nil, Contains-append_left, Contains-push}
 use Rattle.std.proofs.lemmas.List.Folds.{list_all-append}
 use Rattle.mbqi_values.specs.Clauses.{lit_true}
@@ -28,7 +30,8 @@ none_true (lit ∷ lits) atom none =
     let parts = and_parts (not lit.yes) (list_all (λ (other : Lit). not other.yes) lits) none in
     rw (not-true lit.yes parts.0) (none_true lits atom parts.1)
 
-only_here : (lits : List Lit) (lit : Lit) (a : ℕ) → list_all (λ other. not other.yes) lits ≡ true → (eqb lit.atom a || trues_of lits a) ≡ true → lit.atom ≡ a
+only_here : (lits : List Lit) (lit : Lit) (a : ℕ) → list_all (λ other. not other.yes) lits ≡ true
+    → (eqb lit.atom a || trues_of lits a) ≡ true → lit.atom ≡ a
 only_here lits lit a none is =
     ⊎_elim
     (λ (here : eqb lit.atom a ≡ true). eqb-true lit.atom a here)
@@ -61,7 +64,8 @@ true_by v (lit ∷ lits) atom hold is =
     (or_cases (lit.yes && eqb lit.atom atom) (trues_of lits atom) is)
 
 -- Each of the literals is true under the truths that they give, where some truths make them true. `all` are all of them.
-hold_by_trues : (v : ℕ → Bool) (all lits : List Lit) → lits_true v all ≡ true → lits_true v lits ≡ true → ((atom : ℕ) → trues_of lits atom ≡ true → trues_of all atom ≡ true) → lits_true (trues_of all) lits ≡ true
+hold_by_trues : (v : ℕ → Bool) (all lits : List Lit) → lits_true v all ≡ true → lits_true v lits ≡ true
+    → ((atom : ℕ) → trues_of lits atom ≡ true → trues_of all atom ≡ true) → lits_true (trues_of all) lits ≡ true
 hold_by_trues v all [] hold_all hold among = refl
 hold_by_trues v all (lit ∷ lits) hold_all hold among =
     let parts = and_parts (lit_true v lit) (lits_true v lits) hold in
@@ -76,11 +80,13 @@ hold_by_trues v all (lit ∷ lits) hold_all hold among =
     and_from _ _ here (hold_by_trues v all lits hold_all parts.1 (λ atom is. among atom (or_right (lit.yes && eqb lit.atom atom) (trues_of lits atom) is)))
 
 -- A content with a valuation, and at most one such literal, has one in which at most one atom is true.
-pub has_sole : (atoms : ℕ) (lits : List Lit) → at_most_one lits ≡ true → HasValuation (IsFreelyLawful atoms) lits → HasValuation (IsLawful atoms) lits
+pub has_sole : (atoms : ℕ) (lits : List Lit) → at_most_one lits ≡ true → HasValuation (IsFreelyLawful atoms) lits
+    → HasValuation (IsLawful atoms) lits
 has_sole atoms lits one has =
     ([], (trues_of lits, (refl, λ a b. sole_true lits a b one), hold_by_trues has.1.0 lits lits has.1.2 has.1.2 (λ atom is. is)))
 
-pub sole_settled : (atoms : ℕ) (lits : List Lit) (values : List Value) → values ≡ [] → at_most_one lits ≡ true → HasValuation (IsFreelyLawful atoms) lits → Satisfies (IsLawful atoms) lits values
+pub sole_settled : (atoms : ℕ) (lits : List Lit) (values : List Value) → values ≡ [] → at_most_one lits ≡ true
+    → HasValuation (IsFreelyLawful atoms) lits → Satisfies (IsLawful atoms) lits values
 sole_settled atoms lits values none one has =
     (trues_of lits, (none, λ a b. sole_true lits a b one), hold_by_trues has.1.0 lits lits has.1.2 has.1.2 (λ atom is. is))
 
@@ -99,7 +105,8 @@ first_true (l ∷ lits) lit none =
     (elim l.yes as (λ yes. cond yes (Some l) (find (λ (x : Lit). x.yes) lits) ≡ None → cond yes (list_all (λ (other : Lit). not other.yes) (lits ++ lit ∷ [])) (at_most_one (lits ++ lit ∷ [])) ≡ true) [ true ↦ λ h. cc | false ↦ λ h. first_true lits lit h ]) none
 
 -- One more literal where none is taken as true, or it isn't.
-pub one_more : (content : List Lit) (lit : Lit) → (find (λ l. l.yes) content ≡ None) ⊎ (lit.yes ≡ false) → at_most_one content ≡ true → at_most_one (content ++ lit ∷ []) ≡ true
+pub one_more : (content : List Lit) (lit : Lit) → (find (λ l. l.yes) content ≡ None) ⊎ (lit.yes ≡ false) → at_most_one content ≡ true
+    → at_most_one (content ++ lit ∷ []) ≡ true
 one_more content lit (inl none) one = first_true content lit none
 one_more content lit (inr fails) one = one_more_false content lit fails one
 
@@ -123,7 +130,8 @@ at_most_one-take (suc n) (lit ∷ lits) one =
 same_lit-same : (lit : Lit) → same_lit lit lit ≡ true
 same_lit-same lit = and_from _ _ (eq-eqb lit.atom lit.atom refl) (elim lit.yes as (λ yes. cond yes yes (not yes) ≡ true) [ true ↦ refl | false ↦ refl ])
 
-pub found_among : (lits : List Lit) (found : Lit) → find (λ l. l.yes) lits ≡ Some found → (contains_lit lits found ≡ true) × (found.yes ≡ true)
+pub found_among : (lits : List Lit) (found : Lit) → find (λ l. l.yes) lits ≡ Some found
+    → (contains_lit lits found ≡ true) × (found.yes ≡ true)
 found_among [] found is = absurd (cc)
 found_among (lit ∷ lits) found is =
     (elim lit.yes as (λ yes. lit.yes ≡ yes → cond yes (Some lit) (find (λ (x : Lit). x.yes) lits) ≡ Some found → (contains_lit (lit ∷ lits) found ≡ true) × (found.yes ≡ true)) [
@@ -132,13 +140,15 @@ found_among (lit ∷ lits) found is =
     ]) refl is
 
 -- Two such literals of different atoms have no lawful valuation.
-both_true : (v : ℕ → Bool) (one other : Lit) → ((a b : ℕ) → v a ≡ true → v b ≡ true → a ≡ b) → one.yes ≡ true → other.yes ≡ true → eqb one.atom other.atom ≡ false → lit_true v one ≡ true → lit_true v other ≡ true → ⊥
+both_true : (v : ℕ → Bool) (one other : Lit) → ((a b : ℕ) → v a ≡ true → v b ≡ true → a ≡ b) → one.yes ≡ true → other.yes ≡ true
+    → eqb one.atom other.atom ≡ false → lit_true v one ≡ true → lit_true v other ≡ true → ⊥
 both_true v one other sole yes_one yes_other differ is_one is_other =
     let here : v one.atom ≡ true = rw yes_one at is_one in
     let there : v other.atom ≡ true = rw yes_other at is_other in
     false≢true (sym differ ∙ eq-eqb one.atom other.atom (sole one.atom other.atom here there))
 
-contains_true : (v : ℕ → Bool) (lits : List Lit) (lit : Lit) → contains_lit lits lit ≡ true → lits_true v lits ≡ true → lit_true v lit ≡ true
+contains_true : (v : ℕ → Bool) (lits : List Lit) (lit : Lit) → contains_lit lits lit ≡ true → lits_true v lits ≡ true
+    → lit_true v lit ≡ true
 contains_true v [] lit member hold = absurd (false≢true member)
 contains_true v (l ∷ lits) lit member hold =
     let parts = and_parts (lit_true v l) (lits_true v lits) hold in
@@ -152,14 +162,8 @@ refuted : (b : Bool) → (b ≡ true → ⊥) → b ≡ false
 refuted true never = absurd (never refl)
 refuted false never = refl
 
-pub pair_has_none : (atoms : ℕ) (one other : Lit) → one.yes ≡ true → other.yes ≡ true → eqb one.atom other.atom ≡ false → HasNone (IsLawful atoms) (one ∷ other ∷ [])
-pair_has_none atoms one other yes_one yes_other differ values v law =
-    refuted (lits_true v (one ∷ other ∷ [])) (λ hold.
-    let parts = and_parts (lit_true v one) (lits_true v (other ∷ [])) hold in
-    let rest = and_parts (lit_true v other) true parts.1 in
-    both_true v one other law.1 yes_one yes_other differ parts.0 rest.0)
-
-pub content_has_none : (atoms : ℕ) (lits : List Lit) (one other : Lit) → contains_lit lits one ≡ true → one.yes ≡ true → other.yes ≡ true → eqb one.atom other.atom ≡ false → HasNone (IsLawful atoms) (lits ++ other ∷ [])
+pub content_has_none : (atoms : ℕ) (lits : List Lit) (one other : Lit) → contains_lit lits one ≡ true → one.yes ≡ true → other.yes ≡ true
+    → eqb one.atom other.atom ≡ false → HasNone (IsLawful atoms) (lits ++ other ∷ [])
 content_has_none atoms lits one other member yes_one yes_other differ values v law =
     refuted (lits_true v (lits ++ other ∷ [])) (λ hold.
     let parts = and_parts (lits_true v lits) (lits_true v (other ∷ [])) (sym (list_all-append (lit_true v) lits (other ∷ [])) ∙ hold) in
@@ -176,13 +180,15 @@ free_differs (l ∷ lits) lit atom member free =
     (λ (there : contains_lit lits lit ≡ true). free_differs lits lit atom there parts.1)
     (or_cases (same_lit l lit) (contains_lit lits lit) member)
 
-pub clash_kept : (content : List Lit) (other lit : Lit) → find (λ l. l.yes) content ≡ Some other → lit.yes ≡ true → IsFree content lit.atom → is_clash content (other ∷ lit ∷ []) ≡ true
+pub clash_kept : (content : List Lit) (other lit : Lit) → find (λ l. l.yes) content ≡ Some other → lit.yes ≡ true → IsFree content lit.atom
+    → is_clash content (other ∷ lit ∷ []) ≡ true
 clash_kept content other lit found holds free =
     let among = found_among content other found in
     let differ = not_from_false (eqb other.atom lit.atom) (free_differs content other lit.atom among.0 free) in
     and_from _ _ (and_from _ _ (and_from _ _ among.0 among.1) holds) differ
 
-pub clash_has_none : (atoms : ℕ) (content : List Lit) (other lit : Lit) → find (λ l. l.yes) content ≡ Some other → lit.yes ≡ true → IsFree content lit.atom → HasNone (IsLawful atoms) (content ++ lit ∷ [])
+pub clash_has_none : (atoms : ℕ) (content : List Lit) (other lit : Lit) → find (λ l. l.yes) content ≡ Some other → lit.yes ≡ true
+    → IsFree content lit.atom → HasNone (IsLawful atoms) (content ++ lit ∷ [])
 clash_has_none atoms content other lit found holds free =
     let among = found_among content other found in
     content_has_none atoms content other lit among.0 among.1 holds (free_differs content other lit.atom among.0 free)
@@ -198,7 +204,8 @@ contains_from (l ∷ lits) lit is =
     (suc rest.0, omega (arith, rest.1), rest.2)))
     (or_cases (same_lit l lit) (contains_lit lits lit) is)
 
-lent_among : (content pair : List Lit) → is_clash content pair ≡ true → IfSome (refused_by true pair) (λ lit. AreAmong (content ++ lit ∷ []) pair)
+lent_among : (content pair : List Lit) → is_clash content pair ≡ true
+    → IfSome (refused_by true pair) (λ lit. AreAmong (content ++ lit ∷ []) pair)
 lent_among content [] kept = tt
 lent_among content (one ∷ []) kept = tt
 lent_among content (one ∷ other ∷ []) kept =
@@ -210,7 +217,8 @@ lent_among content (one ∷ other ∷ []) kept =
     (All-cons (Contains those) other [] (Contains-push content other) (All-nil _))
 lent_among content (one ∷ other ∷ more ∷ rest) kept = absurd (false≢true kept)
 
-pub lent : (clashed : Bool) (content pair : List Lit) → clashed ≡ true → keeps_clash clashed content pair ≡ true → IfSome (refused_by clashed pair) (λ lit. AreAmong (content ++ lit ∷ []) pair)
+pub lent : (clashed : Bool) (content pair : List Lit) → clashed ≡ true → keeps_clash clashed content pair ≡ true
+    → IfSome (refused_by clashed pair) (λ lit. AreAmong (content ++ lit ∷ []) pair)
 lent true content pair is kept = lent_among content pair kept
 lent false content pair is kept = absurd (false≢true is)
 

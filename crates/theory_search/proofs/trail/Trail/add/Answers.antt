@@ -1,4 +1,4 @@
-use Rattle.std.proofs.Common.{◌<◌, length, vec_len, arith}
+use Rattle.std.proofs.Common.{vec_len, arith}
 use Rattle.theory_search.specs.declared.step.Step.{Step}
 use Rattle.theory_search.proofs.FreshSteps.{step_fits}
 use Rattle.theory_search.proofs.TrailSteps.{added_fresh, added_truths}
