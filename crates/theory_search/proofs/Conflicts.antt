@@ -34,11 +34,15 @@ pub refusal_fails : (trail : Course) (clashed : Option Lit) (lit : Lit) (content
     → false_on (with_lit (truths_of trail) lit) (map negation lent) ≡ true
 refusal_fails trail clashed lit content lent fresh within free are is part =
     let None' : Option Bool = None in
-    let among : AreAmong (content ++ lit ∷ []) lent = subst (λ (o : Option Lit). IfSome o (λ l. AreAmong (content ++ l ∷ []) lent)) is part in
-    refusal_false (no_truths trail.atoms) trail.steps lit lent fresh (subst (λ (n : ℕ). lit.atom < n) (sym (length-replicate trail.atoms None')) within) free (subst (λ (lits : List Lit). AreAmong (lits ++ lit ∷ []) lent) are among)
+    let among : AreAmong (content ++ lit ∷ []) lent =
+    subst (λ (o : Option Lit). IfSome o (λ l. AreAmong (content ++ l ∷ []) lent)) is part in
+    refusal_false (no_truths trail.atoms) trail.steps lit lent fresh
+    (subst (λ (n : ℕ). lit.atom < n) (sym (length-replicate trail.atoms None')) within) free
+    (subst (λ (lits : List Lit). AreAmong (lits ++ lit ∷ []) lent) are among)
 
 -- A refused literal that was implied: the refusal is resolved with its reason.
-pub refuted_conflict : (lawful : List Value → (ℕ → Bool) → Type 0) (clauses : List (List Lit)) (trail : Course) (lit : Lit) (reason : Reason) (clause : List Lit)
+pub refuted_conflict : (lawful : List Value → (ℕ → Bool) → Type 0) (clauses : List (List Lit)) (trail : Course) (lit : Lit)
+    (reason : Reason) (clause : List Lit)
     → lit.atom < trail.atoms → IsLemma lawful clause → false_on (with_lit (truths_of trail) lit) clause ≡ true
     → Implies lawful clauses (truths_of trail) lit reason
     → IsConflict lawful clauses (truths_of trail) (resolvent_of clause (reason_lits clauses reason) lit.atom)

@@ -9,7 +9,8 @@ use Rattle.theory_search.proofs.Choices.{choices_from-chosen, choices_from-impli
 pub frames-popped : (frames left : List ℕ) (old front : List Step) (last : Step) → frames ≡ 0 ∷ choices_from 0 old
     → old ≡ front ++ last ∷ [] → is_chosen last.reason ≡ true → left ≡ take (length frames - 1) frames → left ≡ 0 ∷ choices_from 0 front
 frames-popped frames left old front last are steps chosen closed =
-    let before : frames ≡ (0 ∷ choices_from 0 front) ++ length front ∷ [] = are ∙ ap (λ (fs : List ℕ). 0 ∷ fs) (ap (choices_from 0) steps ∙ choices_from-chosen front last chosen) in
+    let before : frames ≡ (0 ∷ choices_from 0 front) ++ length front ∷ [] = are
+    ∙ ap (λ (fs : List ℕ). 0 ∷ fs) (ap (choices_from 0) steps ∙ choices_from-chosen front last chosen) in
     closed ∙ (ap (λ (fs : List ℕ). take (length fs - 1) fs) before ∙ without_last (0 ∷ choices_from 0 front) (length front))
 
 pub frames-kept : (frames : List ℕ) (old front : List Step) (last : Step) → frames ≡ 0 ∷ choices_from 0 old → old ≡ front ++ last ∷ []

@@ -35,8 +35,12 @@ length-truths atoms steps =
 pub AreFresh-push : (truths : List (Option Bool)) (steps : List Step) (step : Step) → AreFresh truths steps → step.lit.atom < length truths
     → atom_on (truths_after truths steps) step.lit.atom ≡ None → AreFresh truths (steps ++ step ∷ [])
 AreFresh-push truths [] step fresh within free = (within, free, tt)
-AreFresh-push truths (s ∷ steps) step fresh within free =
-    (fresh.0, fresh.1, AreFresh-push (with_lit truths s.lit) steps step fresh.2 (subst (λ (n : ℕ). step.lit.atom < n) (sym (length-set truths s.lit.atom (Some s.lit.yes))) within) free)
+AreFresh-push truths (s ∷ steps) step fresh within free = (
+  fresh.0,
+  fresh.1,
+  AreFresh-push (with_lit truths s.lit) steps step fresh.2
+      (subst (λ (n : ℕ). step.lit.atom < n) (sym (length-set truths s.lit.atom (Some s.lit.yes))) within) free,
+)
 
 pub AreFresh-front : (truths : List (Option Bool)) (steps more : List Step) → AreFresh truths (steps ++ more) → AreFresh truths steps
 AreFresh-front truths [] more fresh = tt
@@ -73,7 +77,8 @@ pub lits_hold : (truths : List (Option Bool)) (steps : List Step) → AreFresh t
 lits_hold truths [] fresh = All-nil _
 lits_hold truths (s ∷ steps) fresh =
     let IsTrueHere : Lit → Type 0 = λ lit. is_true (lit_on (truths_after (with_lit truths s.lit) steps) lit) ≡ true in
-    All-cons IsTrueHere s.lit (lits_of steps) (step_true truths s.lit steps fresh.0 fresh.2) (lits_hold (with_lit truths s.lit) steps fresh.2)
+    All-cons IsTrueHere s.lit (lits_of steps) (step_true truths s.lit steps fresh.0 fresh.2)
+    (lits_hold (with_lit truths s.lit) steps fresh.2)
 
 -- An atom without a truth isn't on the trail.
 pub free_of : (truths : List (Option Bool)) (steps : List Step) (atom : ℕ) → AreFresh truths steps
@@ -82,9 +87,10 @@ free_of truths [] atom fresh free = refl
 free_of truths (s ∷ steps) atom fresh free =
     let after : List (Option Bool) = truths_after (with_lit truths s.lit) steps in
     let other : s.lit.atom ≡ atom → ⊥ = λ (same : s.lit.atom ≡ atom).
-        (let none : atom_on after s.lit.atom ≡ None = ap (λ (a : ℕ). atom_on after a) same ∙ free in
-        false≢true (sym (ap is_true (lit_on-free after s.lit none)) ∙ step_true truths s.lit steps fresh.0 fresh.2)) in
-    and_from _ _ (not_from_false (eqb s.lit.atom atom) (ne_eqb s.lit.atom atom other)) (free_of (with_lit truths s.lit) steps atom fresh.2 free)
+    (let none : atom_on after s.lit.atom ≡ None = ap (λ (a : ℕ). atom_on after a) same ∙ free in
+    false≢true (sym (ap is_true (lit_on-free after s.lit none)) ∙ step_true truths s.lit steps fresh.0 fresh.2)) in
+    and_from _ _ (not_from_false (eqb s.lit.atom atom) (ne_eqb s.lit.atom atom other))
+    (free_of (with_lit truths s.lit) steps atom fresh.2 free)
 
 -- An atom with a truth is on none of the steps to come.
 others_differ : (truths : List (Option Bool)) (steps : List Step) (atom : ℕ) → AreFresh truths steps → is_some (atom_on truths atom) ≡ true
@@ -92,17 +98,21 @@ others_differ : (truths : List (Option Bool)) (steps : List Step) (atom : ℕ) �
 others_differ truths [] atom fresh some = refl
 others_differ truths (s ∷ steps) atom fresh some =
     let other : s.lit.atom ≡ atom → ⊥ = λ (same : s.lit.atom ≡ atom).
-        (let none : atom_on truths atom ≡ None = ap (λ (a : ℕ). atom_on truths a) (sym same) ∙ fresh.1 in
-        false≢true (sym (ap is_some none) ∙ some)) in
+    (let none : atom_on truths atom ≡ None = ap (λ (a : ℕ). atom_on truths a) (sym same) ∙ fresh.1 in
+    false≢true (sym (ap is_some none) ∙ some)) in
     let kept = atom_on-kept truths s.lit.atom (Some s.lit.yes) atom fresh.1 some in
-    and_from _ _ (not_from_false (eqb s.lit.atom atom) (ne_eqb s.lit.atom atom other)) (others_differ (with_lit truths s.lit) steps atom fresh.2 (ap is_some kept ∙ some))
+    and_from _ _ (not_from_false (eqb s.lit.atom atom) (ne_eqb s.lit.atom atom other))
+    (others_differ (with_lit truths s.lit) steps atom fresh.2 (ap is_some kept ∙ some))
 
 -- No two literals on the trail have one atom.
 pub AtomsDiffer-lits : (truths : List (Option Bool)) (steps : List Step) → AreFresh truths steps → AtomsDiffer (lits_of steps)
 AtomsDiffer-lits truths [] fresh = tt
 AtomsDiffer-lits truths (s ∷ steps) fresh =
-    let here = get_or-set_same truths s.lit.atom (Some s.lit.yes) None fresh.0 in
-    (others_differ (with_lit truths s.lit) steps s.lit.atom fresh.2 (ap is_some here), AtomsDiffer-lits (with_lit truths s.lit) steps fresh.2)
+    let here = get_or-set_same truths s.lit.atom (Some s.lit.yes) None fresh.0 in (
+      others_differ (with_lit truths s.lit) steps s.lit.atom fresh.2 (ap is_some here),
+      AtomsDiffer-lits (with_lit truths s.lit) steps
+          fresh.2,
+    )
 
 -- Each step leaves one atom less free.
 free_left : (truths : List (Option Bool)) (steps : List Step) → AreFresh truths steps
@@ -125,6 +135,7 @@ pub step_fits : (atoms : ℕ) (steps : List Step) (atom : ℕ) → AreFresh (no_
 step_fits atoms steps atom fresh within free =
     let left = free_left (no_truths atoms) steps fresh in
     let all = free_count-none atoms in
-    let within_truths : atom < length (truths_after (no_truths atoms) steps) = subst (λ (n : ℕ). atom < n) (sym (length-truths atoms steps)) within in
+    let within_truths : atom < length (truths_after (no_truths atoms) steps) =
+    subst (λ (n : ℕ). atom < n) (sym (length-truths atoms steps)) within in
     let one = free_count-set (truths_after (no_truths atoms) steps) atom true within_truths free in
     omega arith

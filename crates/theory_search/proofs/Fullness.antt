@@ -17,14 +17,16 @@ use Rattle.theory_search.proofs.TruthsAt.{atom_on-some, some-from_true}
 lit_on-after : (truths : List (Option Bool)) (steps : List Step) (lit : Lit) → AreFresh truths steps → is_some (lit_on truths lit) ≡ true
     → lit_on (truths_after truths steps) lit ≡ lit_on truths lit
 lit_on-after truths steps lit fresh some =
-    ap (λ (t : Option Bool). option_map (λ (u : Bool). if lit.yes then u else not u) t) (atom_on-after truths steps lit.atom fresh (atom_on-some truths lit some))
+    ap (λ (t : Option Bool). option_map (λ (u : Bool). if lit.yes then u else not u) t)
+    (atom_on-after truths steps lit.atom fresh (atom_on-some truths lit some))
 
 true_on-after : (truths : List (Option Bool)) (steps : List Step) (clause : List Lit) → AreFresh truths steps → true_on truths clause ≡ true
     → true_on (truths_after truths steps) clause ≡ true
 true_on-after truths steps [] fresh is = is
 true_on-after truths steps (lit ∷ clause) fresh is =
     ⊎_elim
-    (λ (here : is_true (lit_on truths lit) ≡ true). or_left _ _ (ap is_true (lit_on-after truths steps lit fresh (some-from_true (lit_on truths lit) here)) ∙ here))
+    (λ (here : is_true (lit_on truths lit) ≡ true). or_left _ _
+    (ap is_true (lit_on-after truths steps lit fresh (some-from_true (lit_on truths lit) here)) ∙ here))
     (λ (there : true_on truths clause ≡ true). or_right _ _ (true_on-after truths steps clause fresh there))
     (or_cases (is_true (lit_on truths lit)) (true_on truths clause) is)
 
@@ -51,7 +53,8 @@ truths_of-extends old new extends =
 fresh-extends : (old new : Course) (extends : Extends old new) → AreFresh (no_truths new.atoms) new.steps
     → AreFresh (truths_of old) extends.0
 fresh-extends old new extends fresh =
-    AreFresh-rest (no_truths old.atoms) old.steps extends.0 (subst (λ (trail : Course). AreFresh (no_truths trail.atoms) trail.steps) extends.1 fresh)
+    AreFresh-rest (no_truths old.atoms) old.steps extends.0 (subst (λ (trail : Course). AreFresh (no_truths trail.atoms) trail.steps)
+    extends.1 fresh)
 
 pub decided-extends : (old new : Course) (clause : List Lit) → Extends old new → AreFresh (no_truths new.atoms) new.steps
     → decided_on (truths_of old) clause ≡ true → decided_on (truths_of new) clause ≡ true
@@ -67,7 +70,8 @@ pub all_true-extends : (old new : Course) (clauses : List (List Lit)) → Extend
     → list_all (true_on (truths_of old)) clauses ≡ true → list_all (true_on (truths_of new)) clauses ≡ true
 all_true-extends old new clauses extends fresh is =
     all_weaker (true_on (truths_of old)) (true_on (truths_of new))
-    (λ clause holds. rw (truths_of-extends old new extends) (true_on-after (truths_of old) extends.0 clause (fresh-extends old new extends fresh) holds)) clauses is
+    (λ clause holds. rw (truths_of-extends old new extends) (true_on-after (truths_of old) extends.0 clause
+    (fresh-extends old new extends fresh) holds)) clauses is
 
 -- What a full trail gives.
 
@@ -78,14 +82,17 @@ on_trail truths [] lit fresh free is = absurd (cc)
 on_trail truths (s ∷ steps) lit fresh free is =
     ⊎_elim
     (λ (same : s.lit.atom ≡ lit.atom).
-    (let here : atom_on (with_lit truths s.lit) s.lit.atom ≡ Some s.lit.yes = get_or-set_same truths s.lit.atom (Some s.lit.yes) None fresh.0 in
+    (let here : atom_on (with_lit truths s.lit) s.lit.atom ≡ Some s.lit.yes =
+    get_or-set_same truths s.lit.atom (Some s.lit.yes) None fresh.0 in
     let after = atom_on-after (with_lit truths s.lit) steps s.lit.atom fresh.2 (ap is_some here) ∙ here in
-    let moved : atom_on (truths_after (with_lit truths s.lit) steps) s.lit.atom ≡ Some lit.yes = ap (λ (a : ℕ). atom_on (truths_after (with_lit truths s.lit) steps) a) same ∙ is in
+    let moved : atom_on (truths_after (with_lit truths s.lit) steps) s.lit.atom ≡ Some lit.yes =
+    ap (λ (a : ℕ). atom_on (truths_after (with_lit truths s.lit) steps) a) same ∙ is in
     let signs : s.lit.yes ≡ lit.yes = cc in
     let equal : s.lit ≡ lit = λ i. record { atom = same i; yes = signs i } in
     (0, omega arith, equal)))
     (λ (other : s.lit.atom ≡ lit.atom → ⊥).
-    (let still : atom_on (with_lit truths s.lit) lit.atom ≡ None = get_or-set_other truths s.lit.atom lit.atom (Some s.lit.yes) None (λ (e : lit.atom ≡ s.lit.atom). other (sym e)) ∙ free in
+    (let still : atom_on (with_lit truths s.lit) lit.atom ≡ None =
+    get_or-set_other truths s.lit.atom lit.atom (Some s.lit.yes) None (λ (e : lit.atom ≡ s.lit.atom). other (sym e)) ∙ free in
     let rest = on_trail (with_lit truths s.lit) steps lit fresh.2 still is in
     (suc rest.0, omega (arith, rest.1), rest.2)))
     (cases_eq s.lit.atom lit.atom)
@@ -108,7 +115,8 @@ MakesTrue-trail trail [] fresh is = absurd (cc)
 MakesTrue-trail trail (lit ∷ clause) fresh is =
     ⊎_elim
     (λ (here : is_true (lit_on (truths_of trail) lit) ≡ true).
-    (let member = on_trail (no_truths trail.atoms) trail.steps lit fresh (none_at trail.atoms lit.atom) (true-is lit.yes (atom_on (truths_of trail) lit.atom) here) in
+    (let member = on_trail (no_truths trail.atoms) trail.steps lit fresh (none_at trail.atoms lit.atom)
+    (true-is lit.yes (atom_on (truths_of trail) lit.atom) here) in
     (0, lit, omega arith, refl, member)))
     (λ (there : true_on (truths_of trail) clause ≡ true).
     (let rest = MakesTrue-trail trail clause fresh there in
@@ -130,18 +138,21 @@ GivesAtoms-trail trail [] fresh is = All-nil _
 GivesAtoms-trail trail (lit ∷ clause) fresh is =
     let parts = and_parts (is_some (lit_on (truths_of trail) lit)) (decided_on (truths_of trail) clause) is in
     let IsGiven : Lit → Type 0 = λ l. Any (λ given. given.atom ≡ l.atom) (lits_of trail.steps) in
-    All-cons IsGiven lit clause (given_literal trail lit.atom (atom_on (truths_of trail) lit.atom) fresh refl (atom_on-some (truths_of trail) lit parts.0)) (GivesAtoms-trail trail clause fresh parts.1)
+    All-cons IsGiven lit clause (given_literal trail lit.atom (atom_on (truths_of trail) lit.atom) fresh refl
+    (atom_on-some (truths_of trail) lit parts.0)) (GivesAtoms-trail trail clause fresh parts.1)
 
 pub all_model : (trail : Course) (clauses : List (List Lit)) → AreFresh (no_truths trail.atoms) trail.steps
     → list_all (true_on (truths_of trail)) clauses ≡ true → All (MakesTrue (lits_of trail.steps)) clauses
 all_model trail [] fresh is = All-nil _
 all_model trail (clause ∷ clauses) fresh is =
     let parts = and_parts (true_on (truths_of trail) clause) (list_all (true_on (truths_of trail)) clauses) is in
-    All-cons (MakesTrue (lits_of trail.steps)) clause clauses (MakesTrue-trail trail clause fresh parts.0) (all_model trail clauses fresh parts.1)
+    All-cons (MakesTrue (lits_of trail.steps)) clause clauses (MakesTrue-trail trail clause fresh parts.0)
+    (all_model trail clauses fresh parts.1)
 
 pub all_given : (trail : Course) (clauses : List (List Lit)) → AreFresh (no_truths trail.atoms) trail.steps
     → list_all (decided_on (truths_of trail)) clauses ≡ true → All (GivesAtoms (lits_of trail.steps)) clauses
 all_given trail [] fresh is = All-nil _
 all_given trail (clause ∷ clauses) fresh is =
     let parts = and_parts (decided_on (truths_of trail) clause) (list_all (decided_on (truths_of trail)) clauses) is in
-    All-cons (GivesAtoms (lits_of trail.steps)) clause clauses (GivesAtoms-trail trail clause fresh parts.0) (all_given trail clauses fresh parts.1)
+    All-cons (GivesAtoms (lits_of trail.steps)) clause clauses (GivesAtoms-trail trail clause fresh parts.0)
+    (all_given trail clauses fresh parts.1)

@@ -16,8 +16,11 @@ use Rattle.theory_search.proofs.SoundSteps.{AreImplied-push}
 -- Trails that grow.
 
 pub Extends-trans : (old between new : Course) → Extends old between → Extends between new → Extends old new
-Extends-trans old between new first then_ =
-    (first.0 ++ then_.0, then_.1 ∙ (ap (λ (t : Course). record t { steps = t.steps ++ then_.0 }) first.1 ∙ (λ i. record old { steps = append_assoc old.steps first.0 then_.0 i })))
+Extends-trans old between new first then_ = (
+  first.0 ++ then_.0,
+  then_.1 ∙ (ap (λ (t : Course). record t { steps = t.steps ++ then_.0 }) first.1
+      ∙ (λ i. record old { steps = append_assoc old.steps first.0 then_.0 i })),
+)
 
 pub Extends-atoms : (old new : Course) → Extends old new → new.atoms ≡ old.atoms
 Extends-atoms old new extends = ap (λ (t : Course). t.atoms) extends.1
@@ -36,7 +39,8 @@ pub step_decides : (old new : Course) (lit : Lit) (reason : Reason) → new ≡ 
 step_decides old new lit reason same within =
     let inside : lit.atom < length (truths_of old) = subst (λ (n : ℕ). lit.atom < n) (sym (length-truths old.atoms old.steps)) within in
     let truths : truths_of new ≡ with_lit (truths_of old) lit = ap truths_of same ∙ truths_of-step old lit reason in
-    ap (λ (ts : List (Option Bool)). is_some (atom_on ts lit.atom)) truths ∙ ap is_some (get_or-set_same (truths_of old) lit.atom (Some lit.yes) None inside)
+    ap (λ (ts : List (Option Bool)). is_some (atom_on ts lit.atom)) truths
+    ∙ ap is_some (get_or-set_same (truths_of old) lit.atom (Some lit.yes) None inside)
 
 -- A step that is implied, or chosen, keeps the others sound.
 pub IsSound-step : (lawful : List Value → (ℕ → Bool) → Type 0) (clauses : List (List Lit)) (old new : Course) (lit : Lit) (reason : Reason)
@@ -54,7 +58,8 @@ rank-extends old new extends =
 pub rank-grows : (old new : Course) → Extends old new → AreFresh (no_truths new.atoms) new.steps → length old.steps < length new.steps
     → rank_of old < rank_of new
 rank-grows old new extends fresh more =
-    let all : length new.steps ≡ length old.steps + length extends.0 = ap length (steps-extended old new extends) ∙ length-append old.steps extends.0 in
+    let all : length new.steps ≡ length old.steps + length extends.0 = ap length (steps-extended old new extends)
+    ∙ length-append old.steps extends.0 in
     let fits = steps_fit new.atoms new.steps fresh in
     let same = Extends-atoms old new extends in
     subst (λ (t : Course). rank_of old < rank_of t) (sym extends.1) (rank-more old.atoms old.steps extends.0 (omega arith) (omega arith))
@@ -66,10 +71,13 @@ pub rank-rises : (old front new : Course) (last : Step) (turned : Lit) (reason :
     → rank_of (record old { steps = old.steps ++ rest }) < rank_of new
 rank-rises old front new last turned reason atoms steps same room chosen implied rest =
     let next : Step = record { lit = turned; reason = reason } in
-    let rises : rank_from front.atoms (front.steps ++ last ∷ rest) < rank_from front.atoms (front.steps ++ next ∷ []) = rank-turned front.atoms front.steps last next rest room chosen implied in
-    let before : old.steps ++ rest ≡ front.steps ++ last ∷ rest = ap (λ (ss : List Step). ss ++ rest) steps ∙ append_assoc front.steps (last ∷ []) rest in
+    let rises : rank_from front.atoms (front.steps ++ last ∷ rest) < rank_from front.atoms (front.steps ++ next ∷ []) =
+    rank-turned front.atoms front.steps last next rest room chosen implied in
+    let before : old.steps ++ rest ≡ front.steps ++ last ∷ rest = ap (λ (ss : List Step). ss ++ rest) steps
+    ∙ append_assoc front.steps (last ∷ []) rest in
     let moved : rank_from old.atoms (old.steps ++ rest) < rank_from front.atoms (front.steps ++ next ∷ []) =
-        subst (λ (n : ℕ). rank_from n (old.steps ++ rest) < rank_from front.atoms (front.steps ++ next ∷ [])) atoms (subst (λ (ss : List Step). rank_from front.atoms ss < rank_from front.atoms (front.steps ++ next ∷ [])) (sym before) rises) in
+    subst (λ (n : ℕ). rank_from n (old.steps ++ rest) < rank_from front.atoms (front.steps ++ next ∷ [])) atoms
+    (subst (λ (ss : List Step). rank_from front.atoms ss < rank_from front.atoms (front.steps ++ next ∷ [])) (sym before) rises) in
     subst (λ (t : Course). rank_of (record old { steps = old.steps ++ rest }) < rank_of t) (sym same) moved
 
 -- As the rank rises, it comes nearer to its bound.

@@ -16,7 +16,8 @@ use Rattle.theory_search.proofs.SoundSteps.{AreImplied-front, AreImplied-last}
 
 -- A trail whose last step goes.
 
-module _ (lawful : List Value → (ℕ → Bool) → Type 0) (clauses : List (List Lit)) (old new : Course) (last : Step) (atoms : new.atoms ≡ old.atoms) (steps : old.steps ≡ new.steps ++ last ∷ []) where
+module _ (lawful : List Value → (ℕ → Bool) → Type 0) (clauses : List (List Lit)) (old new : Course) (last : Step)
+    (atoms : new.atoms ≡ old.atoms) (steps : old.steps ≡ new.steps ++ last ∷ []) where
   sound_parts : IsSound lawful clauses old → AreImplied lawful clauses (no_truths new.atoms) (new.steps ++ last ∷ [])
   sound_parts sound =
       subst (λ (n : ℕ). AreImplied lawful clauses (no_truths n) (new.steps ++ last ∷ [])) (sym atoms)
@@ -61,7 +62,8 @@ HasNoModel-from_start lawful clauses trail conflict none is =
     empty (step ∷ more) is_none = absurd (omega arith)
 
 -- Once a choice is turned, the rank is above that of each trail that began with it.
-pub turned_rises : {E : Type 0} (result : Result (Option (List Lit)) E) (old front new : Course) (last : Step) (turned : Lit) (reason : Reason)
+pub turned_rises : {E : Type 0} (result : Result (Option (List Lit)) E) (old front new : Course) (last : Step) (turned : Lit)
+    (reason : Reason)
     → front.atoms ≡ old.atoms → old.steps ≡ front.steps ++ last ∷ [] → length front.steps < front.atoms → is_chosen last.reason ≡ true
     → is_chosen reason ≡ false → IfOk result (λ next. IfNone next (new ≡ with_step front turned reason))
     → IfOk result (λ next. IfNone next ((rest : List Step) → rank_of (record old { steps = old.steps ++ rest }) < rank_of new))

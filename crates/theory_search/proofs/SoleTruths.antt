@@ -42,7 +42,8 @@ only_here lits lit a none is =
 sole_true : (lits : List Lit) (a b : ℕ) → at_most_one lits ≡ true → trues_of lits a ≡ true → trues_of lits b ≡ true → a ≡ b
 sole_true [] a b one is_a is_b = absurd (false≢true is_a)
 sole_true (lit ∷ lits) a b one is_a is_b =
-    (elim lit.yes as (λ yes. cond yes (list_all (λ (other : Lit). not other.yes) lits) (at_most_one lits) ≡ true → ((yes && eqb lit.atom a) || trues_of lits a) ≡ true → ((yes && eqb lit.atom b) || trues_of lits b) ≡ true → a ≡ b) [
+    (elim lit.yes as (λ yes. cond yes (list_all (λ (other : Lit). not other.yes) lits) (at_most_one lits) ≡ true
+    → ((yes && eqb lit.atom a) || trues_of lits a) ≡ true → ((yes && eqb lit.atom b) || trues_of lits b) ≡ true → a ≡ b) [
       | true ↦ λ none here_a here_b.
           let at_a = only_here lits lit a none here_a in
           let at_b = only_here lits lit b none here_b in
@@ -70,14 +71,18 @@ hold_by_trues v all [] hold_all hold among = refl
 hold_by_trues v all (lit ∷ lits) hold_all hold among =
     let parts = and_parts (lit_true v lit) (lits_true v lits) hold in
     let here : lit_true (trues_of all) lit ≡ true =
-        (elim lit.yes as (λ yes. lit.yes ≡ yes → cond yes (v lit.atom) (not (v lit.atom)) ≡ true → cond yes (trues_of all lit.atom) (not (trues_of all lit.atom)) ≡ true) [
-          | true ↦ λ holds _. among lit.atom (or_left (lit.yes && eqb lit.atom lit.atom) (trues_of lits lit.atom) (and_from _ _ holds (eq-eqb lit.atom lit.atom refl)))
-          | false ↦ λ _ false_. not_from_false (trues_of all lit.atom) (⊎_elim
-              (λ (holds : trues_of all lit.atom ≡ true). absurd (false≢true (sym (not-true (v lit.atom) false_) ∙ true_by v all lit.atom hold_all holds)))
-              (λ (fails : trues_of all lit.atom ≡ false). fails)
-              (cases_Bool (trues_of all lit.atom)))
-        ]) refl parts.0 in
-    and_from _ _ here (hold_by_trues v all lits hold_all parts.1 (λ atom is. among atom (or_right (lit.yes && eqb lit.atom atom) (trues_of lits atom) is)))
+    (elim lit.yes as (λ yes. lit.yes ≡ yes → cond yes (v lit.atom) (not (v lit.atom)) ≡ true
+    → cond yes (trues_of all lit.atom) (not (trues_of all lit.atom)) ≡ true) [
+      | true ↦ λ holds _. among lit.atom (or_left (lit.yes && eqb lit.atom lit.atom) (trues_of lits lit.atom)
+          (and_from _ _ holds (eq-eqb lit.atom lit.atom refl)))
+      | false ↦ λ _ false_. not_from_false (trues_of all lit.atom) (⊎_elim
+          (λ (holds : trues_of all lit.atom ≡ true). absurd
+          (false≢true (sym (not-true (v lit.atom) false_) ∙ true_by v all lit.atom hold_all holds)))
+          (λ (fails : trues_of all lit.atom ≡ false). fails)
+          (cases_Bool (trues_of all lit.atom)))
+    ]) refl parts.0 in
+    and_from _ _ here (hold_by_trues v all lits hold_all parts.1
+    (λ atom is. among atom (or_right (lit.yes && eqb lit.atom atom) (trues_of lits atom) is)))
 
 -- A content with a valuation, and at most one such literal, has one in which at most one atom is true.
 pub has_sole : (atoms : ℕ) (lits : List Lit) → at_most_one lits ≡ true → HasValuation (IsFreelyLawful atoms) lits
@@ -94,15 +99,19 @@ sole_settled atoms lits values none one has =
 one_more_false : (lits : List Lit) (lit : Lit) → lit.yes ≡ false → at_most_one lits ≡ true → at_most_one (lits ++ lit ∷ []) ≡ true
 one_more_false [] lit fails one = rw fails refl
 one_more_false (l ∷ lits) lit fails one =
-    (elim l.yes as (λ yes. cond yes (list_all (λ (other : Lit). not other.yes) lits) (at_most_one lits) ≡ true → cond yes (list_all (λ (other : Lit). not other.yes) (lits ++ lit ∷ [])) (at_most_one (lits ++ lit ∷ [])) ≡ true) [
-      | true ↦ λ none. list_all-append (λ (other : Lit). not other.yes) lits (lit ∷ []) ∙ and_from _ _ none (and_from _ _ (not_from_false lit.yes fails) refl)
+    (elim l.yes as (λ yes. cond yes (list_all (λ (other : Lit). not other.yes) lits) (at_most_one lits) ≡ true
+    → cond yes (list_all (λ (other : Lit). not other.yes) (lits ++ lit ∷ [])) (at_most_one (lits ++ lit ∷ [])) ≡ true) [
+      | true ↦ λ none. list_all-append (λ (other : Lit). not other.yes) lits (lit ∷ [])
+          ∙ and_from _ _ none (and_from _ _ (not_from_false lit.yes fails) refl)
       | false ↦ λ rest. one_more_false lits lit fails rest
     ]) one
 
 first_true : (lits : List Lit) (lit : Lit) → find (λ l. l.yes) lits ≡ None → at_most_one (lits ++ lit ∷ []) ≡ true
 first_true [] lit none = elim lit.yes as (λ yes. cond yes true true ≡ true) [ true ↦ refl | false ↦ refl ]
 first_true (l ∷ lits) lit none =
-    (elim l.yes as (λ yes. cond yes (Some l) (find (λ (x : Lit). x.yes) lits) ≡ None → cond yes (list_all (λ (other : Lit). not other.yes) (lits ++ lit ∷ [])) (at_most_one (lits ++ lit ∷ [])) ≡ true) [ true ↦ λ h. cc | false ↦ λ h. first_true lits lit h ]) none
+    (elim l.yes as (λ yes. cond yes (Some l) (find (λ (x : Lit). x.yes) lits) ≡ None
+    → cond yes (list_all (λ (other : Lit). not other.yes) (lits ++ lit ∷ [])) (at_most_one (lits ++ lit ∷ [])) ≡ true)
+    [ true ↦ λ h. cc | false ↦ λ h. first_true lits lit h ]) none
 
 -- One more literal where none is taken as true, or it isn't.
 pub one_more : (content : List Lit) (lit : Lit) → (find (λ l. l.yes) content ≡ None) ⊎ (lit.yes ≡ false) → at_most_one content ≡ true
@@ -121,21 +130,29 @@ pub at_most_one-take : (n : ℕ) (lits : List Lit) → at_most_one lits ≡ true
 at_most_one-take zero lits one = refl
 at_most_one-take (suc n) [] one = refl
 at_most_one-take (suc n) (lit ∷ lits) one =
-    (elim lit.yes as (λ yes. cond yes (list_all (λ (other : Lit). not other.yes) lits) (at_most_one lits) ≡ true → cond yes (list_all (λ (other : Lit). not other.yes) (take n lits)) (at_most_one (take n lits)) ≡ true) [
+    (elim lit.yes as (λ yes. cond yes (list_all (λ (other : Lit). not other.yes) lits) (at_most_one lits) ≡ true
+    → cond yes (list_all (λ (other : Lit). not other.yes) (take n lits)) (at_most_one (take n lits)) ≡ true) [
       | true ↦ λ none. all-take (λ (other : Lit). not other.yes) n lits none
       | false ↦ λ rest. at_most_one-take n lits rest
     ]) one
 
 -- What is found is among them, and is taken as true.
 same_lit-same : (lit : Lit) → same_lit lit lit ≡ true
-same_lit-same lit = and_from _ _ (eq-eqb lit.atom lit.atom refl) (elim lit.yes as (λ yes. cond yes yes (not yes) ≡ true) [ true ↦ refl | false ↦ refl ])
+same_lit-same lit = and_from _ _ (eq-eqb lit.atom lit.atom refl) (elim lit.yes as (λ yes. cond yes yes (not yes) ≡ true)
+    [ true ↦ refl | false ↦ refl ])
 
 pub found_among : (lits : List Lit) (found : Lit) → find (λ l. l.yes) lits ≡ Some found
     → (contains_lit lits found ≡ true) × (found.yes ≡ true)
 found_among [] found is = absurd (cc)
 found_among (lit ∷ lits) found is =
-    (elim lit.yes as (λ yes. lit.yes ≡ yes → cond yes (Some lit) (find (λ (x : Lit). x.yes) lits) ≡ Some found → (contains_lit (lit ∷ lits) found ≡ true) × (found.yes ≡ true)) [
-      | true ↦ λ holds h. (let same : lit ≡ found = cc in (or_left (same_lit lit found) (contains_lit lits found) (subst (λ (x : Lit). same_lit lit x ≡ true) same (same_lit-same lit)), subst (λ (x : Lit). x.yes ≡ true) same holds))
+    (elim lit.yes as (λ yes. lit.yes ≡ yes → cond yes (Some lit) (find (λ (x : Lit). x.yes) lits) ≡ Some found
+    → (contains_lit (lit ∷ lits) found ≡ true) × (found.yes ≡ true)) [
+      | true ↦ λ holds h.
+          (let same : lit ≡ found = cc in (
+            or_left (same_lit lit found) (contains_lit lits found)
+                (subst (λ (x : Lit). same_lit lit x ≡ true) same (same_lit-same lit)),
+            subst (λ (x : Lit). x.yes ≡ true) same holds,
+          ))
       | false ↦ λ _ h. (let rest = found_among lits found h in (or_right (same_lit lit found) (contains_lit lits found) rest.0, rest.1))
     ]) refl is
 
@@ -176,7 +193,8 @@ free_differs [] lit atom member free = absurd (false≢true member)
 free_differs (l ∷ lits) lit atom member free =
     let parts = and_parts (not (eqb l.atom atom)) (list_all (λ (x : Lit). not (eqb x.atom atom)) lits) free in
     ⊎_elim
-    (λ (here : same_lit l lit ≡ true). subst (λ (x : Lit). eqb x.atom atom ≡ false) (same_lit-equal l lit here) (not-true (eqb l.atom atom) parts.0))
+    (λ (here : same_lit l lit ≡ true). subst (λ (x : Lit). eqb x.atom atom ≡ false) (same_lit-equal l lit here)
+    (not-true (eqb l.atom atom) parts.0))
     (λ (there : contains_lit lits lit ≡ true). free_differs lits lit atom there parts.1)
     (or_cases (same_lit l lit) (contains_lit lits lit) member)
 

@@ -71,7 +71,14 @@ module _ {S P : Type 0} (theory : Ghosts S P) where
   Stands-implied old new trail lit reason stands keeps implied frames content =
       let opened = IsOpen-same old new trail stands.opened keeps frames in
       record {
-        opened = record { frames = opened.frames ∙ ap (λ (fs : List ℕ). 0 ∷ fs) (sym (choices_from-implied trail.steps (record { lit = lit; reason = reason }) implied)); known = opened.known; room = opened.room; frame_room = opened.frame_room };
+        opened = record {
+          frames = opened.frames
+              ∙ ap (λ (fs : List ℕ). 0 ∷ fs) (sym (choices_from-implied trail.steps (record { lit = lit; reason = reason }) implied));
+          known =
+              opened.known;
+          room = opened.room;
+          frame_room = opened.frame_room;
+        };
         content = content ∙ (ap (λ (lits : List Lit). lits ++ lit ∷ []) stands.content ∙ sym (lits-step trail lit reason));
       }
 
@@ -83,10 +90,14 @@ module _ {S P : Type 0} (theory : Ghosts S P) where
       → Stands theory new (with_step trail lit reason)
   Stands-chosen old pushed new trail lit reason stands opening keeps chosen frames kept frames_kept content =
       let len : length (theory.content old) ≡ length trail.steps = ap length stands.content ∙ length-lits trail.steps in
-      let before : theory.frames old ++ length (theory.content old) ∷ [] ≡ 0 ∷ (choices_from 0 trail.steps ++ length trail.steps ∷ []) = ap (λ (fs : List ℕ). fs ++ length (theory.content old) ∷ []) stands.opened.frames ∙ ap (λ (n : ℕ). 0 ∷ (choices_from 0 trail.steps ++ n ∷ [])) len in
+      let before : theory.frames old ++ length (theory.content old) ∷ [] ≡ 0 ∷ (choices_from 0 trail.steps ++ length trail.steps ∷ []) =
+      ap (λ (fs : List ℕ). fs ++ length (theory.content old) ∷ []) stands.opened.frames
+      ∙ ap (λ (n : ℕ). 0 ∷ (choices_from 0 trail.steps ++ n ∷ [])) len in
       record {
         opened = record {
-          frames = frames_kept ∙ (frames ∙ (before ∙ ap (λ (fs : List ℕ). 0 ∷ fs) (sym (choices_from-chosen trail.steps (record { lit = lit; reason = reason }) chosen))));
+          frames = frames_kept
+              ∙ (frames ∙ (before ∙ ap (λ (fs : List ℕ). 0 ∷ fs)
+              (sym (choices_from-chosen trail.steps (record { lit = lit; reason = reason }) chosen))));
           known = subst (λ (p : P). trail.atoms ≤ theory.atoms p) (sym (keeps.same ∙ opening.same)) stands.opened.known;
           room = omega (arith, stands.opened.room, opening.room, keeps.room);
           frame_room = omega (arith, stands.opened.frame_room, opening.frame_room, keeps.frame_room);
@@ -97,14 +108,16 @@ module _ {S P : Type 0} (theory : Ghosts S P) where
   -- The last step goes: one that is implied takes its frame along, a choice closes its own.
   lits-last : (front : List Step) (last : Step) (rest : List Lit) → lits_of (front ++ last ∷ []) ++ rest ≡ lits_of front ++ last.lit ∷ rest
   lits-last front last rest =
-      ap (λ (lits : List Lit). lits ++ rest) (map_push (λ (step : Step). step.lit) front last) ∙ append_assoc (lits_of front) (last.lit ∷ []) rest
+      ap (λ (lits : List Lit). lits ++ rest) (map_push (λ (step : Step). step.lit) front last)
+      ∙ append_assoc (lits_of front) (last.lit ∷ []) rest
 
   pub Covers-implied : (state : S) (old new : Course) (last : Step) → Covers theory state old → new.atoms ≡ old.atoms
       → old.steps ≡ new.steps ++ last ∷ [] → is_chosen last.reason ≡ false → Covers theory state new
   Covers-implied state old new last covers atoms steps implied =
       record {
         opened = record {
-          frames = covers.opened.frames ∙ ap (λ (fs : List ℕ). 0 ∷ fs) (ap (choices_from 0) steps ∙ choices_from-implied new.steps last implied);
+          frames = covers.opened.frames ∙ ap (λ (fs : List ℕ). 0 ∷ fs)
+              (ap (choices_from 0) steps ∙ choices_from-implied new.steps last implied);
           known = omega (arith, covers.opened.known);
           room = omega (arith, covers.opened.room);
           frame_room = omega (arith, covers.opened.frame_room);
@@ -123,14 +136,19 @@ module _ {S P : Type 0} (theory : Ghosts S P) where
       → old.steps ≡ new.steps ++ last ∷ [] → is_chosen last.reason ≡ true → Closes theory state closed → Stands theory closed new
   Stands-undone state closed old new last covers atoms steps chosen closes =
       let frames = frames-closed (theory.frames state) old.steps new.steps last covers.opened.frames steps chosen in
-      let here : last_frame (theory.frames state) ≡ length new.steps = ap last_frame frames ∙ last_frame-push (0 ∷ choices_from 0 new.steps) (length new.steps) in
-      let content : theory.content state ≡ lits_of new.steps ++ last.lit ∷ covers.rest = covers.content ∙ (ap (λ (ss : List Step). lits_of ss ++ covers.rest) steps ∙ lits-last new.steps last covers.rest) in
+      let here : last_frame (theory.frames state) ≡ length new.steps = ap last_frame frames
+      ∙ last_frame-push (0 ∷ choices_from 0 new.steps) (length new.steps) in
+      let content : theory.content state ≡ lits_of new.steps ++ last.lit ∷ covers.rest = covers.content
+      ∙ (ap (λ (ss : List Step). lits_of ss ++ covers.rest) steps ∙ lits-last new.steps last covers.rest) in
       record {
         opened = record {
-          frames = closes.frames ∙ (ap (λ (fs : List ℕ). take (length fs - 1) fs) frames ∙ without_last (0 ∷ choices_from 0 new.steps) (length new.steps));
-          known = subst (λ (p : P). new.atoms ≤ theory.atoms p) (sym closes.keeps.same) (subst (λ (n : ℕ). n ≤ theory.atoms (theory.problem state)) (sym atoms) covers.opened.known);
+          frames = closes.frames ∙ (ap (λ (fs : List ℕ). take (length fs - 1) fs) frames ∙ without_last (0 ∷ choices_from 0 new.steps)
+              (length new.steps));
+          known = subst (λ (p : P). new.atoms ≤ theory.atoms p) (sym closes.keeps.same)
+              (subst (λ (n : ℕ). n ≤ theory.atoms (theory.problem state)) (sym atoms) covers.opened.known);
           room = omega (arith, covers.opened.room, closes.keeps.room);
           frame_room = omega (arith, covers.opened.frame_room, closes.keeps.frame_room);
         };
-        content = closes.content ∙ (ap (λ (n : ℕ). take n (theory.content state)) here ∙ (ap (λ (lits : List Lit). take (length new.steps) lits) content ∙ content_before new.steps (last.lit ∷ covers.rest)));
+        content = closes.content ∙ (ap (λ (n : ℕ). take n (theory.content state)) here
+            ∙ (ap (λ (lits : List Lit). take (length new.steps) lits) content ∙ content_before new.steps (last.lit ∷ covers.rest)));
       }

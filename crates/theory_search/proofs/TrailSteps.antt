@@ -48,5 +48,7 @@ pub undone_truths : (atoms : ℕ) (truths : List (Option Bool)) (steps front : L
     → set truths last.lit.atom None ≡ truths_after (no_truths atoms) front
 undone_truths atoms truths steps front last is fresh are =
     let before = truths_after (no_truths atoms) front in
-    let now : truths ≡ with_lit before last.lit = is ∙ (ap (truths_after (no_truths atoms)) are ∙ truths_after-push (no_truths atoms) front last) in
-    ap (λ (ts : List (Option Bool)). set ts last.lit.atom None) now ∙ set-free_again before last.lit.atom (Some last.lit.yes) (last_free atoms steps front last fresh are)
+    let now : truths ≡ with_lit before last.lit = is
+    ∙ (ap (truths_after (no_truths atoms)) are ∙ truths_after-push (no_truths atoms) front last) in
+    ap (λ (ts : List (Option Bool)). set ts last.lit.atom None) now
+    ∙ set-free_again before last.lit.atom (Some last.lit.yes) (last_free atoms steps front last fresh are)

@@ -35,18 +35,21 @@ free_count-none atoms =
 pub lit_on-set_other : (truths : List (Option Bool)) (atom : ℕ) (truth : Option Bool) (lit : Lit) → (lit.atom ≡ atom → ⊥)
     → lit_on (set truths atom truth) lit ≡ lit_on truths lit
 lit_on-set_other truths atom truth lit other =
-    ap (λ (t : Option Bool). option_map (λ (u : Bool). if lit.yes then u else not u) t) (get_or-set_other truths atom lit.atom truth None other)
+    ap (λ (t : Option Bool). option_map (λ (u : Bool). if lit.yes then u else not u) t)
+    (get_or-set_other truths atom lit.atom truth None other)
 
 -- A literal of the atom has its truth.
 pub lit_on-set_same : (truths : List (Option Bool)) (truth : Bool) (lit : Lit) → lit.atom < length truths
     → lit_on (set truths lit.atom (Some truth)) lit ≡ Some (if lit.yes then truth else not truth)
 lit_on-set_same truths truth lit within =
-    ap (λ (t : Option Bool). option_map (λ (u : Bool). if lit.yes then u else not u) t) (get_or-set_same truths lit.atom (Some truth) None within)
+    ap (λ (t : Option Bool). option_map (λ (u : Bool). if lit.yes then u else not u) t)
+    (get_or-set_same truths lit.atom (Some truth) None within)
 
 -- A free literal is of a free atom, and the other way round.
 pub atom_on-free : (truths : List (Option Bool)) (lit : Lit) → is_free (lit_on truths lit) ≡ true → atom_on truths lit.atom ≡ None
 atom_on-free truths lit free =
-    (elim (atom_on truths lit.atom) as (λ t. is_none (option_map (λ (u : Bool). if lit.yes then u else not u) t) ≡ true → t ≡ None) [ None ↦ λ h. refl | Some t ↦ λ h. cc ]) free
+    (elim (atom_on truths lit.atom) as (λ t. is_none (option_map (λ (u : Bool). if lit.yes then u else not u) t) ≡ true → t ≡ None)
+    [ None ↦ λ h. refl | Some t ↦ λ h. cc ]) free
 
 pub lit_on-free : (truths : List (Option Bool)) (lit : Lit) → atom_on truths lit.atom ≡ None → lit_on truths lit ≡ None
 lit_on-free truths lit free =
@@ -62,18 +65,21 @@ some-from_false (Some t) is = refl
 
 pub atom_on-some : (truths : List (Option Bool)) (lit : Lit) → is_some (lit_on truths lit) ≡ true → is_some (atom_on truths lit.atom) ≡ true
 atom_on-some truths lit some =
-    (elim (atom_on truths lit.atom) as (λ t. is_some (option_map (λ (u : Bool). if lit.yes then u else not u) t) ≡ true → is_some t ≡ true) [ None ↦ λ h. cc | Some t ↦ λ h. refl ]) some
+    (elim (atom_on truths lit.atom) as (λ t. is_some (option_map (λ (u : Bool). if lit.yes then u else not u) t) ≡ true → is_some t ≡ true)
+    [ None ↦ λ h. cc | Some t ↦ λ h. refl ]) some
 
 -- An atom that has a truth keeps it when a free one gets one.
 pub atom_on-kept : (truths : List (Option Bool)) (free : ℕ) (truth : Option Bool) (atom : ℕ) → atom_on truths free ≡ None
     → is_some (atom_on truths atom) ≡ true → atom_on (set truths free truth) atom ≡ atom_on truths atom
 atom_on-kept truths free truth atom none some =
     ⊎_elim
-    (λ (same : atom ≡ free). (let here : atom_on truths atom ≡ None = ap (λ (a : ℕ). atom_on truths a) same ∙ none in absurd (false≢true (sym (ap is_some here) ∙ some))))
+    (λ (same : atom ≡ free). (let here : atom_on truths atom ≡ None = ap (λ (a : ℕ). atom_on truths a) same ∙ none in absurd
+    (false≢true (sym (ap is_some here) ∙ some))))
     (λ (other : atom ≡ free → ⊥). get_or-set_other truths free atom truth None other)
     (cases_eq atom free)
 
 pub lit_on-kept : (truths : List (Option Bool)) (free : ℕ) (truth : Option Bool) (lit : Lit) → atom_on truths free ≡ None
     → is_some (lit_on truths lit) ≡ true → lit_on (set truths free truth) lit ≡ lit_on truths lit
 lit_on-kept truths free truth lit none some =
-    ap (λ (t : Option Bool). option_map (λ (u : Bool). if lit.yes then u else not u) t) (atom_on-kept truths free truth lit.atom none (atom_on-some truths lit some))
+    ap (λ (t : Option Bool). option_map (λ (u : Bool). if lit.yes then u else not u) t)
+    (atom_on-kept truths free truth lit.atom none (atom_on-some truths lit some))

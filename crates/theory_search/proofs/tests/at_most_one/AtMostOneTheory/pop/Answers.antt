@@ -6,4 +6,8 @@ use Rattle.theory_search.proofs.tests.at_most_one.AtMostOneTheory.pop.Goals as g
 pub invariant_of-self : goal.invariant_of-self
 invariant_of-self c =
     let literals = c.args.self.now.literals in
-    record { one = rw c.pop.ensures.content (at_most_one-take (last_frame literals.frames) literals.content c.args.self.now.one); kept = refl }
+    record {
+      one = rw c.pop.ensures.content (at_most_one-take (last_frame literals.frames) literals.content c.args.self.now.one);
+      kept =
+          refl;
+    }
