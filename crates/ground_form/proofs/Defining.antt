@@ -113,5 +113,6 @@ module _ (table : List Formula) where
         subst (AddsClauses table before after) (sym (ap definitions_in is ∙ definitions_of_truth b))
         (constant_rows b lit, first, constant_is (formula.Truth b) lit (subst (IsLitOf table lit) is own) b)
 
-    pub adds_not : (g : Formula) → f ≡ formula.Not g → AddsClauses table before after (definitions_in g) → AddsClauses table before after (definitions_in f)
-    adds_not g is rest = subst (AddsClauses table before after) (sym (ap definitions_in is ∙ definitions_of_not g)) rest
+  pub adds_not : (f g : Formula) (before after : List (List Lit)) → f ≡ formula.Not g → AddsClauses table before after (definitions_in g)
+      → AddsClauses table before after (definitions_in f)
+  adds_not f g before after is rest = subst (AddsClauses table before after) (sym (ap definitions_in is ∙ definitions_of_not g)) rest

@@ -6,4 +6,5 @@ pub mod Free
 pub mod Growth
 pub mod Literals
 pub mod Parts
+pub mod Steps
 pub mod Truths
