@@ -1,15 +1,18 @@
 -- What the calls of one definition make of the table and of the clauses, over plain variables.
-use Rattle.std.proofs.Common.{◌≡◌, List, ◌++◌, sym, subst}
+use Rattle.std.proofs.Common.{◌≡◌, ◌<◌, List, [], ◌∷◌, ◌++◌, length, sym, ap, subst, ◌∙◌}
+use Rattle.std.specs.Prelude.{All}
 use Rattle.std.specs.List.{AllZip, flat_map}
+use Rattle.std.proofs.lemmas.List.Elements.{All-cons, All-nil}
+use Rattle.mbqi_values.specs.Clauses.{AreBelow}
 use Rattle.mbqi_values.specs.declared.lit.Lit.{Lit}
 use Rattle.mbqi_terms.specs.declared.formula.Formula.{Formula}
 use Rattle.mbqi_terms.specs.declared.formula.Formula.TheVariants as formula
-use Rattle.ground_form.specs.Clauses.{AddsClauses, GrowsBy, IsLitOf, negated}
+use Rattle.ground_form.specs.Clauses.{AddsClauses, AreClausesOf, GrowsBy, IsLitOf, negated}
 use Rattle.ground_form.specs.Definitions.{definitions_in, parts_in}
 use Rattle.ground_form.specs.Rows.{choice_rows, conjunction_rows, disjunction_rows, equivalence_rows}
 use Rattle.ground_form.proofs.Defining.{adds_all, adds_any, adds_choice, adds_iff}
 use Rattle.ground_form.proofs.Growth.{adds_stay, grows_again, lit_stays, lits_stay}
-use Rattle.ground_form.proofs.Literals.{lit_in_not}
+use Rattle.ground_form.proofs.Literals.{lit_below, lit_in_not}
 use Rattle.ground_form.proofs.Parts.{grows_below_choice, grows_below_condition, grows_below_iff, grows_below_left, grows_below_no, grows_below_right, grows_below_yes}
 
 pub below_not : (table : List Formula) (f g : Formula) (lit other : Lit) → f ≡ formula.Not g → other ≡ negated lit → IsLitOf table lit f → IsLitOf table other g
@@ -72,3 +75,26 @@ module _ (f c g h : Formula) (is : f ≡ formula.Choose c g h) (start first seco
           (adds_stay (parts_in h) third last four mid next (definitions_in c)
           (adds_stay (parts_in g) second third three mid next (definitions_in c) condition_rows))
           (adds_stay (parts_in h) third last four next more (definitions_in g) left_rows) right_rows
+
+-- the unit clause of a formula with those that define its parts
+pub with_unit : (f : Formula) (lit : Lit) (start last : List Formula) (unit clauses : List (List Lit)) → GrowsBy (parts_in f) start last → IsLitOf start lit f
+    → unit ≡ (lit ∷ []) ∷ [] → AddsClauses last unit clauses (definitions_in f) → AreClausesOf last clauses ((f ∷ []) ∷ definitions_in f)
+with_unit f lit start last unit clauses grows own one adds =
+    subst (λ all. AreClausesOf last all ((f ∷ []) ∷ definitions_in f)) (sym (adds.1 ∙ ap (λ first. first ++ adds.0) one))
+    ((lit_stays (parts_in f) start last grows lit f own, tt), adds.2)
+
+-- the atoms of clauses are those of the table
+module _ (table : List Formula) where
+  abbrev IsBelow : Lit → Type 0
+  IsBelow lit = lit.atom < length table
+
+  lits_below : (lits : List Lit) (fs : List Formula) → AllZip (IsLitOf table) lits fs → All IsBelow lits
+  lits_below [] fs zip = All-nil IsBelow
+  lits_below (lit ∷ lits) [] zip = absurd zip
+  lits_below (lit ∷ lits) (f ∷ fs) zip = All-cons IsBelow lit lits (lit_below table f lit zip.0) (lits_below lits fs zip.1)
+
+  pub clauses_below : (clauses : List (List Lit)) (rows : List (List Formula)) → AreClausesOf table clauses rows → AreBelow (length table) clauses
+  clauses_below [] rows are = All-nil (All IsBelow)
+  clauses_below (clause ∷ clauses) [] are = absurd are
+  clauses_below (clause ∷ clauses) (row ∷ rows) are =
+      All-cons (All IsBelow) clause clauses (lits_below clause row are.0) (clauses_below clauses rows are.1)
