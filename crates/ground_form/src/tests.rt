@@ -9,6 +9,7 @@ use mbqi_terms::{Formula, Formulas, Symbol, Term, Terms};
 use mbqi_values::{Lit, Lits};
 use sqlite_items::Boxed;
 use std::alloc::{AllocError, Global};
+use std::process::Abort;
 use std::test::Fail;
 
 // A constant of sort Bool.
