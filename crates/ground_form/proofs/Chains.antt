@@ -137,7 +137,7 @@ chain_grows formulas more digest (suc place) h =
 -- with one more formula the last of each digest is that formula, or what it was
 pub chain_push : (formulas : List Formula) (f : Formula) (digest : ℕ)
     → last_before (formulas ++ f ∷ []) digest (suc (length formulas))
-      ≡ (if digest_of f == digest then Some (length formulas) else last_before formulas digest (length formulas))
+    ≡ (if digest_of f == digest then Some (length formulas) else last_before formulas digest (length formulas))
 chain_push formulas f digest =
     ap (λ o. if has_digest digest o then Some (length formulas) else last_before (formulas ++ f ∷ []) digest (length formulas)) (get_seam formulas f [])
     ∙ ap (λ o. if digest_of f == digest then Some (length formulas) else o) (chain_grows formulas (f ∷ []) digest (length formulas) (omega arith))
@@ -147,13 +147,13 @@ distinct_push : (formulas : List Formula) (f : Formula) → AreDistinct formulas
 distinct_push formulas f distinct new i j g here there =
     elim (place_in formulas f i g here) [
       | inl first ↦ elim (place_in formulas f j g there) [
-          | inl second ↦ distinct i j g first second
-          | inr second ↦ absurd (new i (first ∙ ap Some (sym second.1)))
-        ]
+        | inl second ↦ distinct i j g first second
+        | inr second ↦ absurd (new i (first ∙ ap Some (sym second.1)))
+      ]
       | inr first ↦ elim (place_in formulas f j g there) [
-          | inl second ↦ absurd (new j (second ∙ ap Some (sym first.1)))
-          | inr second ↦ first.0 ∙ sym second.0
-        ]
+        | inl second ↦ absurd (new j (second ∙ ap Some (sym first.1)))
+        | inr second ↦ first.0 ∙ sym second.0
+      ]
     ]
   where
     place_in : (xs : List Formula) (f : Formula) (i : ℕ) (g : Formula) → slice_get (xs ++ f ∷ []) i ≡ Some g
@@ -200,15 +200,15 @@ table_push entries lasts after entry is new positive earlier updates =
     chained : (place : ℕ) (e : Entry) → slice_get (entries ++ entry ∷ []) place ≡ Some e
         → e.earlier ≡ last_before (formulas_of (entries ++ entry ∷ [])) (digest_of e.formula) place
     chained place e at = elim (at_end entries place at) [
-        | inl first ↦
-            is.earlier place e first
-            ∙ sym (stays (digest_of e.formula) place (let within = slice_get_within entries place e first in omega (arith, within)))
-        | inr last ↦
-            ap (λ (e : Entry). e.earlier) (sym last.1)
-            ∙ (earlier ∙ (ap (last_before (formulas_of entries) (digest_of entry.formula)) (same_length ∙ sym last.0)
-            ∙ (sym (stays (digest_of entry.formula) place (omega (arith, last.0)))
-            ∙ ap (λ (e : Entry). last_before (formulas_of (entries ++ entry ∷ [])) (digest_of e.formula) place) last.1)))
-      ]
+      | inl first ↦
+          is.earlier place e first
+          ∙ sym (stays (digest_of e.formula) place (let within = slice_get_within entries place e first in omega (arith, within)))
+      | inr last ↦
+          ap (λ (e : Entry). e.earlier) (sym last.1)
+          ∙ (earlier ∙ (ap (last_before (formulas_of entries) (digest_of entry.formula)) (same_length ∙ sym last.0)
+          ∙ (sym (stays (digest_of entry.formula) place (omega (arith, last.0)))
+          ∙ ap (λ (e : Entry). last_before (formulas_of (entries ++ entry ∷ [])) (digest_of e.formula) place) last.1)))
+    ]
       where
         at_end : (xs : List Entry) (i : ℕ) → slice_get (xs ++ entry ∷ []) i ≡ Some e → (slice_get xs i ≡ Some e) ⊎ ((i ≡ length xs) × (entry ≡ e))
         at_end [] zero found = inr (refl, cc)

@@ -206,13 +206,19 @@ module _ (table : List Formula) (truths : ℕ → Bool) where
         → AllZip (AllZip HasTruth) (definition_layer f (Formula-F.Choose c g h)) (choice_rows v k a b)
     choice_has c g h k a b condition left right =
         let no = not_has f v own in
-        let not_condition = not_has c k condition in
-        ((no, (not_condition, (left, tt))), ((no, (condition, (right, tt))), ((own, (not_condition, (not_has g a left, tt))),
-        ((own, (condition, (not_has h b right, tt))), tt))))
+        let not_condition = not_has c k condition in (
+          (no, (not_condition, (left, tt))),
+          (
+            (no, (condition, (right, tt))),
+            (
+              (own, (not_condition, (not_has g a left, tt))),
+              ((own, (condition, (not_has h b right, tt))), tt),
+            ),
+          ),
+        )
 
 -- where each atom has the truth of its formula, all definitions are true
 module _ (m : Meanings) where
-
   pub truth_rolled : (f : Formula) (layer : Formula-F Formula) → roll-Formula layer ≡ f
       → truth_of m f ≡ truth_layer m (map-Formula Formula Bool (truth_of m) layer)
   truth_rolled f layer rolls = ap (truth_of m) (sym rolls) ∙ fold-roll-Formula Bool (truth_layer m) layer

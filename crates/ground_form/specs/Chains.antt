@@ -1,7 +1,6 @@
 -- How formulas are found by their digests (this project's own): the map has the last formula of each digest, and each formula names the one of
 -- its digest that came before it.
 use Rattle.std.specs.Prelude.{◌≡◌, ℕ, zero, suc, ◌==◌, Bool, false, List, length, map, Option, None, Some, slice_get, if◌then◌else◌, All}
-
 use Rattle.mbqi_terms.specs.declared.formula.Formula.{Formula}
 use Rattle.mbqi_terms.specs.Distinct.{AreDistinct}
 use Rattle.ground_form.specs.declared.table.Entry.{Entry}

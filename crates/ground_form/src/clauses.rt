@@ -100,8 +100,9 @@ fn push_definitions(
             let condition = condition.get();
             let yes = yes.get();
             let no = no.get();
-            let (chooses, first, second) =
-                define_choice(alloc, table, clauses, lit, condition, yes, no)?;
+            let (chooses, first, second) = define_choice(
+                alloc, table, clauses, lit, condition, yes, no,
+            )?;
             push_definitions(alloc, table, clauses, condition, chooses)?;
             push_definitions(alloc, table, clauses, yes, first)?;
             push_definitions(alloc, table, clauses, no, second)

@@ -55,9 +55,15 @@ fn term_digest(t: &Term) -> u64
         Term::Plus(base, number) => mixed(mixed(11, term_digest(base.get())), low_bits(*number)),
         Term::Var(place) => mixed(12, *place as u64),
         Term::Truth(truth) => if *truth { 13 } else { 14 },
-        Term::Apply(symbol, args) => terms_digest(mixed(15, symbol_digest(symbol)), args.as_slice()),
+        Term::Apply(symbol, args) => terms_digest(
+            mixed(15, symbol_digest(symbol)),
+            args.as_slice(),
+        ),
         Term::Read(array, index) => {
-            mixed(mixed(16, array_digest(array.get())), term_digest(index.get()))
+            mixed(
+                mixed(16, array_digest(array.get())),
+                term_digest(index.get()),
+            )
         }
         Term::Default(array) => mixed(17, array_digest(array.get())),
     }
@@ -81,13 +87,14 @@ fn symbol_digest(symbol: &Symbol) -> u64
 {
     match symbol {
         Symbol::Declared(function) => mixed(5, *function as u64),
-        Symbol::Skolem(assertion, place) => {
-            mixed(mixed(6, *assertion as u64), *place as u64)
-        }
+        Symbol::Skolem(assertion, place) => { mixed(mixed(6, *assertion as u64), *place as u64) }
         Symbol::Seed(sort) => mixed(7, *sort as u64),
         Symbol::Far => 8,
         Symbol::Diff(left, right) => {
-            mixed(mixed(9, array_digest(left.get())), array_digest(right.get()))
+            mixed(
+                mixed(9, array_digest(left.get())),
+                array_digest(right.get()),
+            )
         }
     }
 }
@@ -99,7 +106,10 @@ fn array_digest(array: &ArrayTerm) -> u64
     match array {
         ArrayTerm::Name(function) => mixed(1, *function as u64),
         ArrayTerm::Store(changed, index, value) => {
-            let place = mixed(mixed(2, array_digest(changed.get())), term_digest(index.get()));
+            let place = mixed(
+                mixed(2, array_digest(changed.get())),
+                term_digest(index.get()),
+            );
             mixed(place, term_digest(value.get()))
         }
         ArrayTerm::Const(_, value) => mixed(3, term_digest(value.get())),

@@ -103,13 +103,13 @@ impl AtomTable {
         digest: u64,
         last: Option<usize>,
     ) -> Result<usize, AllocError>
-    requires new { (k : ℕ) → slice_get self.old k ≢ Some formula }
-    requires positive { is_not formula ≡ false }
-    requires digest { digest ≡ digest_of formula }
-    requires last { last ≡ last_before self.old digest (length self.old) }
-    ensures ok { IfOk result (λ atom. (atom ≡ length self.old) × (self.new ≡ self.old ++ formula ∷ [])) }
-    ensures err { OnErr result (self.new ≡ self.old) }
-{
+        requires new { (k : ℕ) → slice_get self.old k ≢ Some formula }
+        requires positive { is_not formula ≡ false }
+        requires digest { digest ≡ digest_of formula }
+        requires last { last ≡ last_before self.old digest (length self.old) }
+        ensures ok { IfOk result (λ atom. (atom ≡ length self.old) × (self.new ≡ self.old ++ formula ∷ [])) }
+        ensures err { OnErr result (self.new ≡ self.old) }
+    {
         let place = self.entries.len();
         self.entries.push(Entry {
             formula,

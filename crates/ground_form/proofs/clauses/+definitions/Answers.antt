@@ -71,11 +71,11 @@ push_definitions-returns-in-Not-clause-clauses t c = λ own.
 
 -- a conjunction
 pub push_definitions-returns-in_err-lits-in-All-clause-grows : goal.push_definitions-returns-in_err-lits-in-All-clause-grows
-push_definitions-returns-in_err-lits-in-All-clause-grows t c = 
+push_definitions-returns-in_err-lits-in-All-clause-grows t c =
     grows_below_all c.args.f.now c.args.table.now c.define_all.new.table c.as_slice-parts.result.now (c.in-All.is ∙ ap formula.All (sym c.as_slice-parts.ensures)) c.define_all.ensures.grows
 
 pub push_definitions-returns-in_ok-lits-in-All-clause-grows : goal.push_definitions-returns-in_ok-lits-in-All-clause-grows
-push_definitions-returns-in_ok-lits-in-All-clause-grows t c = 
+push_definitions-returns-in_ok-lits-in-All-clause-grows t c =
     let is = (c.in-All.is ∙ ap formula.All (sym c.as_slice-parts.ensures)) in
     grows_again (parts_in c.args.f.now) c.args.table.now c.define_all.new.table c.push_all_definitions.new.table
     (grows_below_all c.args.f.now c.args.table.now c.define_all.new.table c.as_slice-parts.result.now is c.define_all.ensures.grows)
@@ -97,11 +97,11 @@ push_definitions-returns-in_ok-lits-in-All-clause-clauses t c = λ own.
 
 -- a disjunction
 pub push_definitions-returns-in_err-lits-in-Any-clause-grows : goal.push_definitions-returns-in_err-lits-in-Any-clause-grows
-push_definitions-returns-in_err-lits-in-Any-clause-grows t c = 
+push_definitions-returns-in_err-lits-in-Any-clause-grows t c =
     grows_below_any c.args.f.now c.args.table.now c.define_any.new.table c.as_slice-parts-in-Any.result.now (c.in-Any.is ∙ ap formula.Any (sym c.as_slice-parts-in-Any.ensures)) c.define_any.ensures.grows
 
 pub push_definitions-returns-in_ok-lits-in-Any-clause-grows : goal.push_definitions-returns-in_ok-lits-in-Any-clause-grows
-push_definitions-returns-in_ok-lits-in-Any-clause-grows t c = 
+push_definitions-returns-in_ok-lits-in-Any-clause-grows t c =
     let is = (c.in-Any.is ∙ ap formula.Any (sym c.as_slice-parts-in-Any.ensures)) in
     grows_again (parts_in c.args.f.now) c.args.table.now c.define_any.new.table c.push_all_definitions-in-Any.new.table
     (grows_below_any c.args.f.now c.args.table.now c.define_any.new.table c.as_slice-parts-in-Any.result.now is c.define_any.ensures.grows)
@@ -123,16 +123,16 @@ push_definitions-returns-in_ok-lits-in-Any-clause-clauses t c = λ own.
 
 -- that two formulas have one truth
 pub push_definitions-returns-in_err-first-in-Iff-clause-grows : goal.push_definitions-returns-in_err-first-in-Iff-clause-grows
-push_definitions-returns-in_err-first-in-Iff-clause-grows t c = 
+push_definitions-returns-in_err-first-in-Iff-clause-grows t c =
     grows_below_iff c.args.f.now c.args.table.now c.define_iff.new.table c.get-left.result.now c.get-right.result.now (c.in-Iff.is ∙ λ i. formula.Iff (sym c.get-left.ensures i) (sym c.get-right.ensures i)) c.define_iff.ensures.grows
 
 pub push_definitions-returns-in_err-push_definitions-in-Iff-clause-grows : goal.push_definitions-returns-in_err-push_definitions-in-Iff-clause-grows
-push_definitions-returns-in_err-push_definitions-in-Iff-clause-grows t c = 
+push_definitions-returns-in_err-push_definitions-in-Iff-clause-grows t c =
     iff_grows_left c.args.f.now c.get-left.result.now c.get-right.result.now (c.in-Iff.is ∙ λ i. formula.Iff (sym c.get-left.ensures i) (sym c.get-right.ensures i)) c.args.table.now
     c.define_iff.new.table c.push_definitions-in-Iff.new.table c.push_definitions-in-Iff.new.table c.define_iff.ensures.grows c.push_definitions-in-Iff.ensures.grows
 
 pub push_definitions-returns-in_ok-push_definitions-in-Iff-clause-grows : goal.push_definitions-returns-in_ok-push_definitions-in-Iff-clause-grows
-push_definitions-returns-in_ok-push_definitions-in-Iff-clause-grows t c = 
+push_definitions-returns-in_ok-push_definitions-in-Iff-clause-grows t c =
     iff_grows c.args.f.now c.get-left.result.now c.get-right.result.now (c.in-Iff.is ∙ λ i. formula.Iff (sym c.get-left.ensures i) (sym c.get-right.ensures i)) c.args.table.now
     c.define_iff.new.table c.push_definitions-in-Iff.new.table c.push_definitions-in-Iff-2.new.table c.define_iff.ensures.grows c.push_definitions-in-Iff.ensures.grows c.push_definitions-in-Iff-2.ensures.grows
 
@@ -152,24 +152,24 @@ push_definitions-returns-in_ok-push_definitions-in-Iff-clause-clauses t c = λ o
 
 -- a choice
 pub push_definitions-returns-in_err-chooses-in-Choose-clause-grows : goal.push_definitions-returns-in_err-chooses-in-Choose-clause-grows
-push_definitions-returns-in_err-chooses-in-Choose-clause-grows t c = 
+push_definitions-returns-in_err-chooses-in-Choose-clause-grows t c =
     grows_below_choice c.args.f.now c.args.table.now c.define_choice.new.table c.get-condition.result.now c.get-yes.result.now c.get-no.result.now
     (c.in-Choose.is ∙ λ i. formula.Choose (sym c.get-condition.ensures i) (sym c.get-yes.ensures i) (sym c.get-no.ensures i)) c.define_choice.ensures.grows
 
 pub push_definitions-returns-in_err-push_definitions-in-Choose-clause-grows : goal.push_definitions-returns-in_err-push_definitions-in-Choose-clause-grows
-push_definitions-returns-in_err-push_definitions-in-Choose-clause-grows t c = 
+push_definitions-returns-in_err-push_definitions-in-Choose-clause-grows t c =
     choice_grows_condition c.args.f.now c.get-condition.result.now c.get-yes.result.now c.get-no.result.now
     (c.in-Choose.is ∙ λ i. formula.Choose (sym c.get-condition.ensures i) (sym c.get-yes.ensures i) (sym c.get-no.ensures i)) c.args.table.now c.define_choice.new.table c.push_definitions-in-Choose.new.table
     c.push_definitions-in-Choose.new.table c.push_definitions-in-Choose.new.table c.define_choice.ensures.grows c.push_definitions-in-Choose.ensures.grows
 
 pub push_definitions-returns-in_err-push_definitions-in-Choose-2-clause-grows : goal.push_definitions-returns-in_err-push_definitions-in-Choose-2-clause-grows
-push_definitions-returns-in_err-push_definitions-in-Choose-2-clause-grows t c = 
+push_definitions-returns-in_err-push_definitions-in-Choose-2-clause-grows t c =
     choice_grows_yes c.args.f.now c.get-condition.result.now c.get-yes.result.now c.get-no.result.now
     (c.in-Choose.is ∙ λ i. formula.Choose (sym c.get-condition.ensures i) (sym c.get-yes.ensures i) (sym c.get-no.ensures i)) c.args.table.now c.define_choice.new.table c.push_definitions-in-Choose.new.table
     c.push_definitions-in-Choose-2.new.table c.push_definitions-in-Choose-2.new.table c.define_choice.ensures.grows c.push_definitions-in-Choose.ensures.grows c.push_definitions-in-Choose-2.ensures.grows
 
 pub push_definitions-returns-in_ok-push_definitions-in-Choose-2-clause-grows : goal.push_definitions-returns-in_ok-push_definitions-in-Choose-2-clause-grows
-push_definitions-returns-in_ok-push_definitions-in-Choose-2-clause-grows t c = 
+push_definitions-returns-in_ok-push_definitions-in-Choose-2-clause-grows t c =
     choice_grows c.args.f.now c.get-condition.result.now c.get-yes.result.now c.get-no.result.now
     (c.in-Choose.is ∙ λ i. formula.Choose (sym c.get-condition.ensures i) (sym c.get-yes.ensures i) (sym c.get-no.ensures i)) c.args.table.now c.define_choice.new.table c.push_definitions-in-Choose.new.table
     c.push_definitions-in-Choose-2.new.table c.push_definitions-in-Choose-3.new.table c.define_choice.ensures.grows c.push_definitions-in-Choose.ensures.grows c.push_definitions-in-Choose-2.ensures.grows c.push_definitions-in-Choose-3.ensures.grows
