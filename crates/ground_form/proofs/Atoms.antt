@@ -1,6 +1,6 @@
 -- Formulas that are no negations have atoms of their own.
-use Rattle.std.proofs.Common.{◌≡◌, ℕ, Bool, true, false, List, [], ◌∷◌, ◌++◌, length, Some, slice_get, inl, inr, refl, sym, ap, subst, ◌∙◌}
-use Rattle.std.specs.Prelude.{All, Contains}
+use Rattle.std.proofs.Common.{◌≡◌, ℕ, Bool, true, List, [], ◌∷◌, length, Some, slice_get, inl, inr, refl, sym, ap, subst, ◌∙◌}
+use Rattle.std.specs.Prelude.{Contains}
 use Rattle.std.proofs.lemmas.List.Elements.{All-cons, All-nil}
 use Rattle.mbqi_values.specs.declared.lit.Lit.{Lit}
 use Rattle.mbqi_terms.specs.declared.formula.Formula.{Formula, out-Formula}
@@ -9,9 +9,6 @@ use Rattle.mbqi_terms.specs.declared.formula.Formula.TheOpen.{Formula-F}
 use Rattle.mbqi_terms.specs.declared.formula.Formula.TheVariants as formula
 use Rattle.mbqi_terms.specs.declared.formula.Formula.TheViews.{roll-Formula, roll-out-Formula}
 use denote.Hole.Carrier.{hidden}
-use Rattle.mbqi_terms.specs.declared.sort.Binder.{Binder}
-use Rattle.mbqi_terms.specs.declared.term.ArrayTerm.{ArrayTerm}
-use Rattle.mbqi_terms.specs.declared.term.Term.{Term}
 use Rattle.mbqi_terms.specs.Distinct.{Puts}
 use Rattle.mbqi_terms.proofs.Trees.{get_seam}
 use Rattle.ground_form.specs.Clauses.{GrowsBy, IsAtomOf, IsLitOf, negated}

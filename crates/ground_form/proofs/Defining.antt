@@ -1,5 +1,5 @@
 -- The clauses that define a literal have the literals of those that define its formula.
-use Rattle.std.proofs.Common.{◌≡◌, Bool, true, false, if◌then◌else◌, List, [], ◌∷◌, ◌++◌, map, refl, sym, ap, subst, ◌∙◌}
+use Rattle.std.proofs.Common.{◌≡◌, Bool, true, false, List, [], ◌∷◌, ◌++◌, map, sym, ap, subst, ◌∙◌}
 use Rattle.std.specs.List.{AllZip, flat_map}
 use Rattle.mbqi_values.specs.declared.lit.Lit.{Lit}
 use Rattle.mbqi_terms.specs.declared.formula.Formula.{Formula}
@@ -9,7 +9,7 @@ use Rattle.ground_form.specs.Clauses.{AddsClauses, AreClausesOf, IsLitOf, negate
 use Rattle.ground_form.specs.Definitions.{definition_layer, definitions_in}
 use Rattle.ground_form.specs.Rows.{choice_rows, conjunction_rows, constant_rows, disjunction_rows, equivalence_rows}
 use Rattle.ground_form.proofs.Growth.{adds_again, zip_append}
-use Rattle.ground_form.proofs.Literals.{lit_in_not, lit_of_not}
+use Rattle.ground_form.proofs.Literals.{lit_of_not}
 use Rattle.ground_form.proofs.Parts.{definitions_of_all, definitions_of_any, definitions_of_choice, definitions_of_iff, definitions_of_not, definitions_of_truth}
 
 module _ (table : List Formula) where

@@ -1,6 +1,6 @@
 -- Where the truths of what has no parts are those of meanings and the clauses are true, each literal has its formula's truth.
-use Rattle.std.proofs.Common.{◌≡◌, ℕ, Bool, true, false, not, ◌&&◌, ◌||◌, if◌then◌else◌, List, [], ◌∷◌, ◌++◌, map, Some, slice_get, refl, sym, ap, subst, ◌∙◌}
-use Rattle.std.specs.List.{AllByRecursion, AllZip, flat_map, list_all, list_any}
+use Rattle.std.proofs.Common.{◌≡◌, ℕ, Bool, true, false, not, ◌||◌, if◌then◌else◌, List, [], ◌∷◌, ◌++◌, map, refl, sym, ap, subst, ◌∙◌}
+use Rattle.std.specs.List.{AllByRecursion, AllZip, flat_map, list_any}
 use Rattle.std.proofs.lemmas.Bool.{and_parts, or_parts}
 use Rattle.std.proofs.lemmas.List.Folds.{list_all-append}
 use Rattle.mbqi_values.specs.Clauses.{all_true, clause_true, lit_true}
@@ -11,13 +11,12 @@ use Rattle.mbqi_terms.specs.declared.formula.Formula.TheFolds.{ind-Formula, map-
 use Rattle.mbqi_terms.specs.declared.formula.Formula.TheOpen.{Formula-F}
 use Rattle.mbqi_terms.specs.declared.formula.Formula.TheVariants as formula
 use Rattle.mbqi_terms.specs.declared.formula.Formula.TheViews.{out-roll-Formula, roll-Formula}
-use Rattle.mbqi_terms.specs.declared.sort.Binder.{Binder}
 use Rattle.mbqi_terms.specs.declared.term.ArrayTerm.{ArrayTerm}
 use Rattle.mbqi_terms.specs.declared.term.Term.{Term}
 use Rattle.mbqi_terms.specs.Distinct.{AreDistinct}
 use Rattle.mbqi_terms.specs.Meanings.{Meanings, truth_layer, truth_of}
 use Rattle.ground_form.specs.Clauses.{AgreeOnBase, AreClausesOf, IsAtomOf, IsLitOf}
-use Rattle.ground_form.specs.Definitions.{definition_layer, definitions_in, is_compound, is_compound_layer}
+use Rattle.ground_form.specs.Definitions.{definition_layer, definitions_in, is_compound_layer}
 use Rattle.ground_form.proofs.Free.{free_rolled}
 use Rattle.ground_form.proofs.Growth.{zip_cut}
 use Rattle.ground_form.proofs.Literals.{one_lit}

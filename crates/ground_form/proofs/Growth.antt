@@ -1,6 +1,6 @@
 -- Tables that grow, and clauses that are added.
 use Rattle.std.proofs.Common.{◌≡◌, ℕ, zero, suc, ◌+◌, List, [], ◌∷◌, ◌++◌, take, Some, slice_get, refl, sym, ap, subst, ◌∙◌, append_assoc, append-nil}
-use Rattle.std.specs.Prelude.{All, Contains, slice_index_or, Result, Ok, Err, OnOk}
+use Rattle.std.specs.Prelude.{Contains, slice_index_or, Result, Ok, Err, OnOk}
 use Rattle.std.specs.List.{AllZip}
 use Rattle.std.proofs.lemmas.List.Elements.{All-append, All-nil, All-weaker, Contains-append_left, Contains-append_right}
 use Rattle.mbqi_values.specs.declared.lit.Lit.{Lit}

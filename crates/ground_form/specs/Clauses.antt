@@ -1,8 +1,8 @@
 -- What literals and clauses over the formulas of a table stand for.
-use Rattle.std.specs.Prelude.{◌≡◌, ℕ, Bool, true, false, not, List, [], ◌∷◌, ◌++◌, Option, None, Some, slice_get, All, Contains}
+use Rattle.std.specs.Prelude.{◌≡◌, ℕ, Bool, true, false, not, List, ◌++◌, Option, None, Some, slice_get, All, Contains}
 use Rattle.std.specs.List.{AllZip}
 use Rattle.mbqi_values.specs.declared.lit.Lit.{Lit}
-use Rattle.mbqi_terms.specs.declared.formula.Formula.{Formula, Row_of-Formula, end_of-Formula, more_of-Formula}
+use Rattle.mbqi_terms.specs.declared.formula.Formula.{Formula, end_of-Formula, more_of-Formula}
 use Rattle.mbqi_terms.specs.declared.formula.Formula.TheVariants.{Atom, Equal, AtMost, SameArray, Not', All', Any', Iff', Choose', Forall', Exists'}
 use Rattle.mbqi_terms.specs.declared.formula.Formula.TheVariants as formula
 use Rattle.mbqi_terms.specs.Meanings.{Meanings, truth_of}

@@ -3,7 +3,6 @@
 use Rattle.std.specs.Prelude.{Bool, true, false, List, [], ◌∷◌, ◌++◌, map, if◌then◌else◌}
 use Rattle.std.specs.List.{flat_map}
 use Rattle.mbqi_terms.specs.declared.formula.Formula.{Formula, Row_of-Formula, end_of-Formula, more_of-Formula, out-Formula}
-use Rattle.mbqi_terms.specs.declared.formula.Formula.TheFolds.{fold-Formula}
 use Rattle.mbqi_terms.specs.declared.formula.Formula.TheOpen.{Formula-F}
 use Rattle.mbqi_terms.specs.declared.formula.Formula.TheVariants.{Atom, Equal, AtMost, SameArray, Not, Not', All', Any', Iff', Choose', Forall', Exists'}
 use Rattle.mbqi_terms.specs.declared.formula.Formula.TheVariants as formula

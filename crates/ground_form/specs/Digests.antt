@@ -1,6 +1,6 @@
 -- Digests of trees, by which equal formulas are found (this project's own; the multiplier is that of Fowler, Noll and Vo). Equal trees have
 -- equal digests. Sorts, binders and operations of maps are left out: trees that differ in these alone are told apart by comparing them.
-use Rattle.std.specs.Prelude.{ℕ, ◌+◌, ◌*◌, ◌%◌, ◌^◌, ℤ, unsigned_abs, Bool, List, [], ◌∷◌, if◌then◌else◌}
+use Rattle.std.specs.Prelude.{ℕ, ◌+◌, ◌*◌, ◌%◌, ◌^◌, ℤ, unsigned_abs, List, [], ◌∷◌, if◌then◌else◌}
 use Rattle.mbqi_terms.specs.declared.formula.Formula.{Formula}
 use Rattle.mbqi_terms.specs.declared.formula.Formula.TheFolds.{fold-Formula}
 use Rattle.mbqi_terms.specs.declared.formula.Formula.TheOpen.{Formula-F}

@@ -1,4 +1,4 @@
-use Rattle.std.proofs.Common.{◌≡◌, List, ◌++◌, ◌+◌, length, take, Some, slice_get, slice_index_or, refl, sym, ap, subst, ◌∙◌, false}
+use Rattle.std.proofs.Common.{◌≡◌, List, ◌++◌, length, take, refl, sym, ap, subst, ◌∙◌, false}
 use Rattle.std.specs.List.{AllZip, flat_map}
 use Rattle.mbqi_values.specs.declared.lit.Lit.{Lit}
 use Rattle.std.proofs.lemmas.Option.{slice_get_read}

@@ -1,5 +1,5 @@
-use Rattle.std.proofs.Common.{◌≡◌, length, Some, slice_get, refl, sym, ap, subst, arith, ◌+◌, take}
-use Rattle.std.specs.List.{AllZip, flat_map}
+use Rattle.std.proofs.Common.{length, refl, sym, ap, subst, arith, ◌+◌, take}
+use Rattle.std.specs.List.{AllZip}
 use Rattle.std.proofs.lemmas.Option.{slice_get_read}
 use Rattle.std.proofs.lemmas.List.{length_push}
 use Rattle.ground_form.specs.Clauses.{IsLitOf}

@@ -1,4 +1,4 @@
-use Rattle.std.proofs.Common.{◌≡◌, ◌≢◌, ◌<◌, length, Some, slice_get, refl, sym, ◌∙◌, rules, true≢false}
+use Rattle.std.proofs.Common.{◌≢◌, ◌<◌, length, refl, sym, ◌∙◌, rules, true≢false}
 use Rattle.std.proofs.lemmas.Option.{slice_get_read}
 use Rattle.ground_form.specs.Chains.{formulas_of}
 use Rattle.ground_form.specs.Digests.{digest_of}

@@ -1,6 +1,5 @@
-use Rattle.std.proofs.Common.{◌≡◌, ◌≢◌, ℕ, List, length, Some, slice_get, nat_eq, cond, rules, sym, subst, ◌∙◌}
+use Rattle.std.proofs.Common.{◌≡◌, ◌≢◌, ℕ, length, Some, slice_get, nat_eq, cond, rules, sym, subst, ◌∙◌}
 use Rattle.indexmap.specs.IndexMap.{get}
-use Rattle.mbqi_terms.specs.declared.formula.Formula.{Formula}
 use Rattle.ground_form.specs.declared.table.Entry.{Entry}
 use Rattle.ground_form.specs.Chains.{IsTable, formulas_of, last_before}
 use Rattle.ground_form.specs.Digests.{digest_of}
