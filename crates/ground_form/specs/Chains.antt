@@ -1,5 +1,5 @@
--- How formulas are found by their digests (this project's own): the map has the last formula of each digest, and each formula names the one of
--- its digest that came before it.
+-- How formulas are found by their digests (this project's own): the map has the last formula of each digest, and each formula names the
+-- one of its digest that came before it.
 use Rattle.std.specs.Prelude.{◌≡◌, ℕ, zero, suc, ◌==◌, Bool, false, List, length, map, Option, None, Some, slice_get, if◌then◌else◌, All}
 use Rattle.mbqi_terms.specs.declared.formula.Formula.{Formula}
 use Rattle.mbqi_terms.specs.Distinct.{AreDistinct}
@@ -14,7 +14,8 @@ has_digest digest (Some f) = digest_of f == digest
 -- The place of the last formula of the digest before a place.
 abbrev pub last_before : List Formula → ℕ → ℕ → Option ℕ
 last_before formulas digest zero = None
-last_before formulas digest (suc place) = if has_digest digest (slice_get formulas place) then Some place else last_before formulas digest place
+last_before formulas digest (suc place) =
+    if has_digest digest (slice_get formulas place) then Some place else last_before formulas digest place
 
 abbrev pub formulas_of : List Entry → List Formula
 formulas_of entries = map (λ (entry : Entry). entry.formula) entries

@@ -1,5 +1,5 @@
--- The parts of a formula without quantifiers, and the clauses that define them (Tseitin 1968): each part stands for an atom, and its clauses
--- say how its truth follows from the truths of the parts next below it.
+-- The parts of a formula without quantifiers, and the clauses that define them (Tseitin 1968): each part stands for an atom, and its
+-- clauses say how its truth follows from the truths of the parts next below it.
 use Rattle.std.specs.Prelude.{Bool, true, false, List, [], ◌∷◌, ◌++◌, map, if◌then◌else◌}
 use Rattle.std.specs.List.{flat_map}
 use Rattle.mbqi_terms.specs.declared.formula.Formula.{Formula, Row_of-Formula, end_of-Formula, more_of-Formula, out-Formula}

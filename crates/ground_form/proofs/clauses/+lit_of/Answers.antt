@@ -7,15 +7,18 @@ use Rattle.ground_form.proofs.clauses.+lit_of.Goals as goal
 
 pub returns-in_err-lit_of-in-Not-clause-grows : goal.returns-in_err-lit_of-in-Not-clause-grows
 returns-in_err-lit_of-in-Not-clause-grows t c =
-    grows_below_not c.args.f.now c.args.table.now c.lit_of.new.table c.get.result.now (c.in-Not.is ∙ ap formula.Not (sym c.get.ensures)) c.lit_of.ensures.grows
+    grows_below_not c.args.f.now c.args.table.now c.lit_of.new.table c.get.result.now (c.in-Not.is ∙ ap formula.Not (sym c.get.ensures))
+    c.lit_of.ensures.grows
 
 pub returns-in_ok-lit_of-in-Not-clause-grows : goal.returns-in_ok-lit_of-in-Not-clause-grows
 returns-in_ok-lit_of-in-Not-clause-grows t c =
-    grows_below_not c.args.f.now c.args.table.now c.lit_of.new.table c.get.result.now (c.in-Not.is ∙ ap formula.Not (sym c.get.ensures)) c.lit_of.ensures.grows
+    grows_below_not c.args.f.now c.args.table.now c.lit_of.new.table c.get.result.now (c.in-Not.is ∙ ap formula.Not (sym c.get.ensures))
+    c.lit_of.ensures.grows
 
 pub returns-in_ok-lit_of-in-Not-clause-lit : goal.returns-in_ok-lit_of-in-Not-clause-lit
 returns-in_ok-lit_of-in-Not-clause-lit t c =
-    not_lit c.lit_of.new.table c.args.f.now c.get.result.now c.in_ok-lit_of-in-Not.field-0 c.negated.result (c.in-Not.is ∙ ap formula.Not (sym c.get.ensures))
+    not_lit c.lit_of.new.table c.args.f.now c.get.result.now c.in_ok-lit_of-in-Not.field-0 c.negated.result (c.in-Not.is ∙ ap formula.Not
+    (sym c.get.ensures))
     c.negated.ensures c.in_ok-lit_of-in-Not.ensures.lit
 
 pub returns-in_ok-number-in_default : goal.returns-in_ok-number-in_default

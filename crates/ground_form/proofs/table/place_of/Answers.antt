@@ -22,24 +22,31 @@ pub returns-then-same_formula-clause-found : goal.returns-then-same_formula-clau
 returns-then-same_formula-clause-found c =
     let left = c.loop-next.invariant in
     let below = last_within c.args.entries.now c.args.f.now left.0 c.in-Some.place left.1 (sym left.2 ∙ c.in-Some.is) in
-    let at = slice_get_read c.args.entries.now (length c.args.entries.now) c.in-Some.place c.index-entries-place.result refl below c.index-entries-place.is in
-    found_at c.args.entries.now c.args.f.now c.in-Some.place c.index-entries-place.result at (c.same_formula.ensures.0 c.if-same_formula.true)
+    let at = slice_get_read c.args.entries.now (length c.args.entries.now) c.in-Some.place c.index-entries-place.result refl below
+    c.index-entries-place.is in
+    found_at c.args.entries.now c.args.f.now c.in-Some.place c.index-entries-place.result at (c.same_formula.ensures.0
+    c.if-same_formula.true)
 
 pub loop-next-preserved : goal.loop-next-preserved
 loop-next-preserved c =
     let left = c.loop-next.invariant in
-    let other : c.index-entries-place.result.formula ≢ c.args.f.now = λ same. absurd (true≢false (sym (c.same_formula.ensures.1 same) ∙ c.if-same_formula.false)) in
+    let other : c.index-entries-place.result.formula ≢ c.args.f.now = λ same. absurd (true≢false (sym (c.same_formula.ensures.1 same) ∙
+    c.if-same_formula.false)) in
     let below = last_within c.args.entries.now c.args.f.now left.0 c.in-Some.place left.1 (sym left.2 ∙ c.in-Some.is) in
-    let at = slice_get_read c.args.entries.now (length c.args.entries.now) c.in-Some.place c.index-entries-place.result refl below c.index-entries-place.is in
-    chain_step c.args.entries.now c.args.f.now c.requires.table.0 left.0 c.in-Some.place c.index-entries-place.result c.requires.table.1 left.1
+    let at = slice_get_read c.args.entries.now (length c.args.entries.now) c.in-Some.place c.index-entries-place.result refl below
+    c.index-entries-place.is in
+    chain_step c.args.entries.now c.args.f.now c.requires.table.0 left.0 c.in-Some.place c.index-entries-place.result c.requires.table.1
+    left.1
     (sym left.2 ∙ c.in-Some.is) left.3 at other
 
 pub loop-next-smaller : goal.loop-next-smaller
 loop-next-smaller c =
     let left = c.loop-next.invariant in
     let below = last_within c.args.entries.now c.args.f.now left.0 c.in-Some.place left.1 (sym left.2 ∙ c.in-Some.is) in
-    let at = slice_get_read c.args.entries.now (length c.args.entries.now) c.in-Some.place c.index-entries-place.result refl below c.index-entries-place.is in
-    room_shrinks (formulas_of c.args.entries.now) (digest_of c.args.f.now) c.in-Some.place c.index-entries-place.result.earlier c.loop-next.next c.in-Some.is
+    let at = slice_get_read c.args.entries.now (length c.args.entries.now) c.in-Some.place c.index-entries-place.result refl below
+    c.index-entries-place.is in
+    room_shrinks (formulas_of c.args.entries.now) (digest_of c.args.f.now) c.in-Some.place c.index-entries-place.result.earlier
+    c.loop-next.next c.in-Some.is
     (earlier_is c.args.entries.now c.args.f.now c.requires.table.0 left.0 c.in-Some.place c.index-entries-place.result c.requires.table.1
     (sym left.2 ∙ c.in-Some.is) at)
 

@@ -15,8 +15,10 @@ invariant_of-self-in-Ok c =
     let last : c.args.last ≡ last_before (formulas_of entries) (digest_of c.args.formula) (length (formulas_of entries)) =
     c.requires.last ∙ (λ i. last_before (same i) (c.requires.digest i) (length (same i))) in
     let place : c.len-place.result ≡ length entries = search rules in
-    let updates : (q : ℕ) → get nat_eq c.insert.new.self q ≡ cond (nat_eq (digest_of c.args.formula) q) (Some (length entries)) (get nat_eq c.self.inside.lasts q) =
+    let updates : (q : ℕ) → get nat_eq c.insert.new.self q ≡ cond (nat_eq (digest_of c.args.formula) q) (Some (length entries)) (get nat_eq
+    c.self.inside.lasts q) =
     λ q. c.in-Ok.ensures.updates.0 q
     ∙ (λ i. cond (nat_eq (c.requires.digest i) q) (Some (place i)) (get nat_eq c.self.inside.lasts q)) in
     subst (λ items. IsTable items (get nat_eq c.insert.new.self)) (sym c.in_ok-push.ensures.items)
-    (table_push entries (get nat_eq c.self.inside.lasts) (get nat_eq c.insert.new.self) entry c.self.invariant new c.requires.positive last updates)
+    (table_push entries (get nat_eq c.self.inside.lasts) (get nat_eq c.insert.new.self) entry c.self.invariant new c.requires.positive last
+    updates)
