@@ -1,3 +1,0 @@
-pub mod FalseClauses
-pub mod Resolution
-pub mod Trails

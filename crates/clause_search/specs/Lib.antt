@@ -1,4 +1,0 @@
-pub mod Clauses
-pub mod Resolvent
-pub mod Searched
-pub mod Trail
