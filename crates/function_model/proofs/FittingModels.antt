@@ -1,6 +1,6 @@
 -- A model that fits a script is sound, and gives values of the script's sorts.
 use Rattle.std.proofs.Common.{◌≡◌, ℕ, zero, suc, ◌+◌, Bool, true, false, cond, ◌==◌, ◌&&◌, List, [], ◌∷◌, ◌++◌, map, append-nil, append_assoc, zero-add, eq-eqb, ne_eqb, if◌then◌else◌, refl, ap, sym, subst, ◌∙◌, arith}
-use Rattle.std.specs.Prelude.{All, Option, None, Some, filter, find, slice_get}
+use Rattle.std.specs.Prelude.{All, None, Some, filter, find, slice_get}
 use Rattle.std.specs.List.{AllByRecursion, AllZip}
 use Rattle.std.proofs.lemmas.Cmp.{nat_eq_equiv}
 use Rattle.std.proofs.lemmas.List.Elements.{All-cons, All-head, All-nil, All-tail}
@@ -13,7 +13,7 @@ use Rattle.mbqi_terms.specs.declared.store.lists.Lists.{Lists}
 use Rattle.mbqi_terms.specs.InForm.{plain_lists}
 use Rattle.mbqi_terms.specs.Lists.{skolem_of}
 use Rattle.mbqi_terms.specs.ScriptLists.{lists_of, skolems_of}
-use Rattle.function_model.specs.Fits.{AreRows, Fits, FitsFull, FitsSignature, FitsTable, HaveKnots, IsRow, IsSmall, RiseFrom, RowsRiseFrom, Signature, StandOn, array_signatures, default_signature, difference_signature, far_signature, function_signature, function_signatures, hidden_signatures, places_of, read_signature, sameness_signature, seed_signatures, shown_signatures, skolem_signature, values_of}
+use Rattle.function_model.specs.Fits.{AreRows, Fits, FitsFull, FitsSignature, FitsTable, HaveKnots, IsRow, IsSmall, RiseFrom, RowsRiseFrom, Signature, StandOn, array_signatures, default_signature, difference_signature, far_signature, function_signature, function_signatures, hidden_signatures, places_of, read_signature, sameness_signature, seed_signatures, skolem_signature, values_of}
 use Rattle.function_model.specs.Holds.{IsOf}
 use Rattle.function_model.specs.Lookup.{given_by, is_at, is_declared, is_skolem, looked_up, looked_up_in, value_at}
 use Rattle.function_model.specs.Rising.{RowsRise}

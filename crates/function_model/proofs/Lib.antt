@@ -25,5 +25,4 @@ pub mod StoreValues
 pub mod SymbolTables
 pub mod TermParts
 pub mod ValueOrder
-pub mod ValueRows
 pub mod Values

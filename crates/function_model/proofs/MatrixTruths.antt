@@ -1,5 +1,5 @@
 -- A matrix whose functions give values of their sorts holds where it is true, and fails where it is false.
-use Rattle.std.proofs.Common.{◌≡◌, ℕ, Bool, true, false, true≢false, not, ◌&&◌, ◌||◌, List, [], ◌∷◌, map, ◌⊎◌, inl, inr, ⊎_elim, refl, ap, sym, subst, ◌∙◌}
+use Rattle.std.proofs.Common.{◌≡◌, ℕ, Bool, true, false, true≢false, not, List, [], ◌∷◌, map, ◌⊎◌, inl, inr, ⊎_elim, refl, ap, sym, subst, ◌∙◌}
 use Rattle.std.specs.Prelude.{All, if◌then◌else◌}
 use Rattle.std.specs.List.{list_all, list_any}
 use Rattle.std.specs.Ordering.{is_le}
@@ -23,7 +23,6 @@ use Rattle.mbqi_terms.specs.declared.term.ArrayTerm.TheOpen.{ArrayTerm-F}
 use Rattle.mbqi_terms.specs.declared.term.ArrayTerm.TheVariants as array
 use Rattle.mbqi_terms.specs.declared.term.ArrayTerm.TheViews.{out-roll-ArrayTerm}
 use Rattle.mbqi_terms.specs.declared.term.MapOp.{MapOp}
-use Rattle.mbqi_terms.specs.declared.term.Symbol.TheVariants as symbol
 use Rattle.mbqi_terms.specs.declared.term.Term.{Term}
 use Rattle.mbqi_terms.specs.declared.term.Term.TheVariants as term
 use Rattle.mbqi_terms.specs.HasSort.{AreMatrices, HasSortIn, IsArrayIn, IsIndexSort, IsMatrix, Setting}
@@ -32,12 +31,11 @@ use Rattle.mbqi_terms.specs.Sort.{plain_sort}
 use Rattle.function_model.specs.Evaluable.{IsEvaluable, IsEvaluableFormula}
 use Rattle.function_model.specs.Fits.{values_of}
 use Rattle.function_model.specs.Holds.{HoldsAt, IsOf}
-use Rattle.function_model.specs.Lookup.{given_by, is_declared, is_skolem}
 use Rattle.function_model.specs.Points.{values_at}
 use Rattle.function_model.specs.Sound.{GivesSorts}
 use Rattle.function_model.specs.ValueOf.{Point, is_compound, is_compound_layer, value_of}
 use Rattle.function_model.specs.declared.model.FunctionModel.{FunctionModel}
-use Rattle.function_model.proofs.FormulaTruths.{all_parts, any_parts, at_most_parts, atom_part, choose_parts, equal_parts, iff_parts, no_arrays, not_part, truth_all, truth_any, truth_at_most, truth_atom, truth_choose, truth_equal, truth_iff, truth_not, truth_truth}
+use Rattle.function_model.proofs.FormulaTruths.{all_parts, any_parts, atom_part, choose_parts, iff_parts, no_arrays, not_part, truth_all, truth_any, truth_at_most, truth_atom, truth_choose, truth_equal, truth_iff, truth_not, truth_truth}
 use Rattle.function_model.proofs.HoldsLaws.{EachOf, SomeOf, fails_all, fails_any, holds_all, holds_any}
 use Rattle.function_model.proofs.TermParts.{no_default, read_level}
 use Rattle.function_model.proofs.Values.{read_name, value_apply, value_read, value_skolem, value_truth}

@@ -18,7 +18,7 @@ use Rattle.function_model.specs.Fits.{IsSmall}
 use Rattle.function_model.specs.Lookup.{is_at, is_declared, is_difference, is_far, is_full, is_seed, is_skolem, looked_up_in, table_where, value_at}
 use Rattle.function_model.specs.Sound.{IsSound, IsSoundTable}
 use Rattle.function_model.specs.Tabled.{given_or, symbol_gives, table_of_array, table_of_layer, untabled_layer}
-use Rattle.function_model.specs.ValueOf.{Point, array_of, value_of}
+use Rattle.function_model.specs.ValueOf.{Point, value_of}
 use Rattle.function_model.specs.declared.model.FunctionModel.{FunctionModel}
 use Rattle.function_model.specs.declared.model.Row.{Row}
 use Rattle.function_model.specs.declared.model.Table.{Table}

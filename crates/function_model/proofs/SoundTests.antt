@@ -1,11 +1,11 @@
 -- What passes the tests of soundness is sound.
-use Rattle.std.proofs.Common.{◌≡◌, ℕ, zero, suc, ◌+◌, ◌-◌, ◌^◌, ◌<◌, ◌≤◌, pos, negsuc, Bool, true, false, true≢false, ◌&&◌, ◌||◌, List, [], ◌∷◌, length, ⊎_elim, refl, ap, sym, subst, ◌∙◌, arith, leb-true, ltb-true, eqb-true}
+use Rattle.std.proofs.Common.{◌≡◌, ℕ, zero, suc, ◌+◌, ◌-◌, ◌^◌, ◌<◌, ◌≤◌, pos, negsuc, Bool, true, false, true≢false, ◌&&◌, List, [], ◌∷◌, length, ⊎_elim, refl, ap, sym, ◌∙◌, arith, leb-true, ltb-true, eqb-true}
 use Rattle.std.specs.Prelude.{All, Contains, Some, slice_get}
 use Rattle.std.specs.List.{list_all, list_any}
 use Rattle.std.specs.Ordering.{is_lt}
 use Rattle.std.proofs.lemmas.Bool.{and_parts, and_right, or_cases}
 use Rattle.std.proofs.lemmas.Int.{ints}
-use Rattle.std.proofs.lemmas.List.Elements.{All-cons, All-nil, All-weaker}
+use Rattle.std.proofs.lemmas.List.Elements.{All-cons, All-nil}
 use Rattle.mbqi_values.specs.Value.{is_same, rank_of}
 use Rattle.mbqi_values.specs.declared.value.Value.{Value}
 use Rattle.mbqi_values.specs.declared.value.Value.TheVariants.{Num, Elem, Truth}
@@ -16,7 +16,6 @@ use Rattle.function_model.specs.Soundness.{are_sound_from, are_sound_knots, has_
 use Rattle.function_model.specs.declared.model.FunctionModel.{FunctionModel}
 use Rattle.function_model.specs.declared.model.Row.{Row}
 use Rattle.function_model.specs.declared.model.Table.{Table}
-use Rattle.function_model.specs.declared.model.TableName.{TableName}
 use Rattle.function_model.specs.declared.model.TableName.TheVariants.{Declared}
 use Rattle.function_model.proofs.PlaceRanks.{same_value}
 

@@ -1,6 +1,6 @@
 -- The values of a store's terms, by their nodes.
-use Rattle.std.proofs.Common.{◌≡◌, ◌≢◌, ℕ, zero, suc, ◌<◌, ℤ, pos, negsuc, ◌+ℤ◌, Bool, true, false, List, [], ◌∷◌, length, get_or, map, if◌then◌else◌, refl, ap, sym, subst, ◌∙◌, arith}
-use Rattle.std.specs.Prelude.{All, IfSome, None, Some, slice_get}
+use Rattle.std.proofs.Common.{◌≡◌, ◌≢◌, ℕ, zero, suc, ◌<◌, ℤ, pos, negsuc, ◌+ℤ◌, Bool, true, false, List, [], ◌∷◌, length, map, if◌then◌else◌, refl, ap, sym, subst, ◌∙◌, arith}
+use Rattle.std.specs.Prelude.{All, IfSome, None}
 use Rattle.std.proofs.lemmas.Int.{ints}
 use Rattle.std.proofs.lemmas.List.{get_or-map, length-map}
 use Rattle.std.proofs.lemmas.List.Elements.{All-nil}
@@ -32,7 +32,7 @@ use Rattle.function_model.specs.Holds.{nowhere}
 use Rattle.function_model.specs.Lookup.{given_by, is_declared, is_difference, is_far, is_full, is_seed, is_skolem, table_where}
 use Rattle.function_model.specs.Sound.{IsSound, IsSoundTable}
 use Rattle.function_model.specs.Tabled.{IsTabledHead, given_or, head_gives, stored_tree, stored_value, table_of_array, table_of_head, untabled_head}
-use Rattle.function_model.specs.ValueOf.{array_of, is_compound, value_of}
+use Rattle.function_model.specs.ValueOf.{value_of}
 use Rattle.function_model.specs.declared.model.FunctionModel.{FunctionModel}
 use Rattle.function_model.proofs.SmallValues.{array_sound, difference_sound, given_or_small, named_sound, zero_small}
 use Rattle.function_model.proofs.SymbolTables.{looked_up_or, name_of, read_by_table}

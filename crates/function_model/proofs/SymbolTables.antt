@@ -1,5 +1,5 @@
 -- What symbols and reads give, by their tables.
-use Rattle.std.proofs.Common.{◌≡◌, ℕ, zero, suc, ◌+◌, ◌<◌, pos, Bool, true, false, true≢false, cond, List, [], ◌∷◌, map, if◌then◌else◌, refl, ap, sym, subst, ◌∙◌, arith, eqb-true}
+use Rattle.std.proofs.Common.{◌≡◌, ℕ, zero, suc, ◌+◌, ◌<◌, pos, Bool, true, false, true≢false, cond, List, [], ◌∷◌, map, if◌then◌else◌, refl, ap, sym, ◌∙◌, arith, eqb-true}
 use Rattle.std.specs.Prelude.{Option, None, Some, find, slice_get}
 use Rattle.mbqi_values.specs.declared.value.Value.{Value}
 use Rattle.mbqi_values.specs.declared.value.Value.TheVariants.{Num, Truth}
@@ -11,7 +11,7 @@ use Rattle.mbqi_terms.specs.declared.term.Symbol.{Symbol, out-Symbol}
 use Rattle.mbqi_terms.specs.declared.term.Symbol.TheVariants as symbol
 use Rattle.mbqi_terms.specs.declared.term.Term.{Term}
 use Rattle.mbqi_terms.specs.declared.term.Term.TheVariants as term
-use Rattle.function_model.specs.Lookup.{given_by, is_declared, is_difference, is_far, is_full, is_seed, is_skolem, looked_up, looked_up_in, table_where}
+use Rattle.function_model.specs.Lookup.{given_by, is_declared, is_difference, is_far, is_full, is_seed, is_skolem, looked_up, table_where}
 use Rattle.function_model.specs.Sound.{IsSound}
 use Rattle.function_model.specs.Tabled.{given_or, symbol_gives, table_of_layer, untabled_layer}
 use Rattle.function_model.specs.ValueOf.{Point, array_of, is_compound, is_compound_layer, value_of}

@@ -1,10 +1,9 @@
 -- The parts of a term that has its value from tables alone, and their levels.
-use Rattle.std.proofs.Common.{◌≡◌, ℕ, ℤ, false, List, ap, subst, sym, ◌∙◌}
+use Rattle.std.proofs.Common.{◌≡◌, ℤ, false, List, ap, subst, ◌∙◌}
 use Rattle.std.specs.Prelude.{All, get_or}
 use Rattle.std.proofs.lemmas.List.Elements.{Contains-get_or}
 use Rattle.mbqi_values.specs.Sum.{IsBelow}
 use Rattle.mbqi_terms.specs.declared.term.ArrayTerm.{ArrayTerm}
-use Rattle.mbqi_terms.specs.declared.term.ArrayTerm.TheOpen.{Term-F}
 use Rattle.mbqi_terms.specs.declared.term.Symbol.{Symbol}
 use Rattle.mbqi_terms.specs.declared.term.Term.{Term, out-Term}
 use Rattle.mbqi_terms.specs.declared.term.Term.TheVariants as term

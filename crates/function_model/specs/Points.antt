@@ -1,5 +1,5 @@
 -- Points that binders and values make, and what terms are worth there.
-use Rattle.std.specs.Prelude.{ℕ, ◌==◌, false, List, [], ◌∷◌, if◌then◌else◌}
+use Rattle.std.specs.Prelude.{◌==◌, false, List, [], ◌∷◌, if◌then◌else◌}
 use Rattle.mbqi_values.specs.Value.{is_true}
 use Rattle.mbqi_values.specs.declared.value.Value.{Value}
 use Rattle.mbqi_values.specs.declared.value.Value.TheVariants.{Truth}

@@ -73,9 +73,8 @@ fn truth_at(model: &FunctionModel, f: &Formula, binders: &[Binder], point: &[Val
             are_true_at(model, parts, binders, point)
         }
         Formula::Any(parts) => {
-            let parts = parts.as_slice();
-            disjunction_parts(f, parts);
-            is_one_true_at(model, parts, binders, point)
+            disjunction_parts(f, parts.as_slice());
+            is_one_true_at(model, parts.as_slice(), binders, point)
         }
         Formula::Iff(left, right) => {
             let left = left.get();
@@ -95,7 +94,9 @@ fn truth_at(model: &FunctionModel, f: &Formula, binders: &[Binder], point: &[Val
                 truth_at(model, no, binders, point)
             }
         }
-        _ => unreachable!(),
+        Formula::SameArray(_, _) | Formula::Forall(_, _) | Formula::Exists(_, _) => {
+            unreachable!()
+        }
     }
 }
 

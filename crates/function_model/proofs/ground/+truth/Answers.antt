@@ -44,4 +44,4 @@ pub truth_at-returns-in-Any : goal.truth_at-returns-in-Any
 truth_at-returns-in-Any t c =
     let m : Meanings = values_at c.args.model.now (point_of c.args.binders.now c.args.point.now) in
     c.is_one_true_at.ensures
-    ∙ (ap (list_any (truth_of m)) c.as_slice-parts-in-Any.ensures ∙ (sym (truth_any m c.in-Any.parts) ∙ ap (truth_of m) (sym c.in-Any.is)))
+    ∙ (ap (list_any (truth_of m)) c.as_slice-in-Any.ensures ∙ (sym (truth_any m c.in-Any.parts) ∙ ap (truth_of m) (sym c.in-Any.is)))

@@ -1,4 +1,4 @@
-use Rattle.std.proofs.Common.{◌≡◌, get_or, length, ap, arith, subst, sym, ◌∙◌}
+use Rattle.std.proofs.Common.{get_or, length, ap, arith, subst, sym, ◌∙◌}
 use Rattle.std.specs.Prelude.{filter}
 use Rattle.mbqi_values.specs.Value.{is_same}
 use Rattle.function_model.specs.Lookup.{projected}
