@@ -1,21 +1,20 @@
-use Rattle.std.proofs.Common.{ℕ, ◌≡◌, ◌<◌, Bool, true, false, not, List, [], ◌∷◌, ◌++◌, length, map, Option, None, Some, Result, IfOk, IfSome, OnSome, refl, sym, ap, subst}
+use Rattle.std.proofs.Common.{ℕ, ◌≡◌, ◌<◌, Bool, true, List, [], ◌∷◌, ◌++◌, map, Option, None, Some, Result, IfOk}
+use Rattle.std.proofs.Common.{IfSome, OnSome, sym, subst}
 use Rattle.std.proofs.lemmas.List.{length-replicate}
 use Rattle.std.proofs.lemmas.Result.{IfOk-weaker}
 use Rattle.mbqi_values.specs.declared.lit.Lit.{Lit}
 use Rattle.mbqi_values.specs.declared.value.Value.{Value}
 use Rattle.theory_trait.specs.Content.{AreAmong}
 use Rattle.theory_trait.specs.Valuation.{HasNone}
-use Rattle.clause_search.specs.ClauseTruth.{IsUnit}
-use Rattle.clause_search.specs.Course.{clause_at, lits_of, no_truths, reason_lits, truths_of, with_lit, AreFresh, Course}
+use Rattle.clause_search.specs.Course.{lits_of, no_truths, reason_lits, truths_of, with_lit, AreFresh, Course}
 use Rattle.clause_search.specs.Following.{IsConflict, IsLemma}
 use Rattle.clause_search.specs.Resolvent.{negation, resolvent_of}
 use Rattle.clause_search.specs.Standing.{Implies}
 use Rattle.clause_search.specs.Truths.{atom_on, false_on}
 use Rattle.clause_search.specs.declared.step.Reason.{Reason}
-use Rattle.clause_search.specs.declared.step.Reason.TheVariants.{Clause, Derived}
 use Rattle.clause_search.proofs.FreshSteps.{length-truths}
 use Rattle.clause_search.proofs.Refusals.{refusal_false, IsLemma-negations}
-use Rattle.clause_search.proofs.Resolution.{Follows-at, IsConflict-resolvent}
+use Rattle.clause_search.proofs.Resolution.{IsConflict-resolvent}
 
 -- Where conflicts and reasons come from.
 
@@ -24,54 +23,30 @@ pub IfOk-at : {X E : Type 0} (r : Result X E) (x : X) (P : X → Type 0) → IfO
 IfOk-at r x P is holds = IfOk-weaker r (λ y. y ≡ x) P (λ y same. subst P (sym same) holds) is
 
 -- After a clash the negation of what is lent holds in the theory, and is false once the literal is true.
-pub refusal_holds : (lawful : List Value → (ℕ → Bool) → Type 0) (clashed : Option Lit) (lit : Lit) (lent : List Lit) → clashed ≡ Some lit → OnSome clashed (HasNone lawful lent) → IsLemma lawful (map negation lent)
+pub refusal_holds : (lawful : List Value → (ℕ → Bool) → Type 0) (clashed : Option Lit) (lit : Lit) (lent : List Lit) → clashed ≡ Some lit
+    → OnSome clashed (HasNone lawful lent) → IsLemma lawful (map negation lent)
 refusal_holds lawful clashed lit lent is none =
     IsLemma-negations lawful lent (subst (λ (o : Option Lit). OnSome o (HasNone lawful lent)) is none)
 
-pub refusal_fails : (trail : Course) (clashed : Option Lit) (lit : Lit) (content lent : List Lit) → AreFresh (no_truths trail.atoms) trail.steps → lit.atom < trail.atoms → atom_on (truths_of trail) lit.atom ≡ None → content ≡ lits_of trail.steps → clashed ≡ Some lit → IfSome clashed (λ l. AreAmong (content ++ l ∷ []) lent) → false_on (with_lit (truths_of trail) lit) (map negation lent) ≡ true
+pub refusal_fails : (trail : Course) (clashed : Option Lit) (lit : Lit) (content lent : List Lit)
+    → AreFresh (no_truths trail.atoms) trail.steps → lit.atom < trail.atoms → atom_on (truths_of trail) lit.atom ≡ None
+    → content ≡ lits_of trail.steps → clashed ≡ Some lit → IfSome clashed (λ l. AreAmong (content ++ l ∷ []) lent)
+    → false_on (with_lit (truths_of trail) lit) (map negation lent) ≡ true
 refusal_fails trail clashed lit content lent fresh within free are is part =
     let None' : Option Bool = None in
-    let among : AreAmong (content ++ lit ∷ []) lent = subst (λ (o : Option Lit). IfSome o (λ l. AreAmong (content ++ l ∷ []) lent)) is part in
-    refusal_false (no_truths trail.atoms) trail.steps lit lent fresh (subst (λ (n : ℕ). lit.atom < n) (sym (length-replicate trail.atoms None')) within) free (subst (λ (lits : List Lit). AreAmong (lits ++ lit ∷ []) lent) are among)
+    let among : AreAmong (content ++ lit ∷ []) lent =
+    subst (λ (o : Option Lit). IfSome o (λ l. AreAmong (content ++ l ∷ []) lent)) is part in
+    refusal_false (no_truths trail.atoms) trail.steps lit lent fresh
+    (subst (λ (n : ℕ). lit.atom < n) (sym (length-replicate trail.atoms None')) within) free
+    (subst (λ (lits : List Lit). AreAmong (lits ++ lit ∷ []) lent) are among)
 
 -- A refused literal that was implied: the refusal is resolved with its reason.
-pub refuted_conflict : (lawful : List Value → (ℕ → Bool) → Type 0) (clauses : List (List Lit)) (trail : Course) (lit : Lit) (reason : Reason) (clause : List Lit) → lit.atom < trail.atoms → IsLemma lawful clause → false_on (with_lit (truths_of trail) lit) clause ≡ true → Implies lawful clauses (truths_of trail) lit reason → IsConflict lawful clauses (truths_of trail) (resolvent_of clause (reason_lits clauses reason) lit.atom)
+pub refuted_conflict : (lawful : List Value → (ℕ → Bool) → Type 0) (clauses : List (List Lit)) (trail : Course) (lit : Lit)
+    (reason : Reason) (clause : List Lit)
+    → lit.atom < trail.atoms → IsLemma lawful clause → false_on (with_lit (truths_of trail) lit) clause ≡ true
+    → Implies lawful clauses (truths_of trail) lit reason
+    → IsConflict lawful clauses (truths_of trail) (resolvent_of clause (reason_lits clauses reason) lit.atom)
 refuted_conflict lawful clauses trail lit reason clause within holds is implied =
     IsConflict-resolvent lawful clauses (truths_of trail) lit.atom lit.yes clause (reason_lits clauses reason)
     (subst (λ (n : ℕ). lit.atom < n) (sym (length-truths trail.atoms trail.steps)) within)
     (λ values v law _. holds values v law) implied.follows is implied.is_false
-
-not_twice : (truth : Bool) → not (not truth) ≡ truth
-not_twice true = refl
-not_twice false = refl
-
--- The negation of a negation is the literal itself.
-pub negation-negation : (lit : Lit) → negation (negation lit) ≡ lit
-negation-negation lit = λ i. record { atom = lit.atom; yes = not_twice lit.yes i }
-
--- A clause that is false once a literal is true implies its negation.
-false-turned : (truths : List (Option Bool)) (lit : Lit) (clause : List Lit) → false_on (with_lit truths lit) clause ≡ true → false_on (with_lit truths (negation (negation lit))) clause ≡ true
-false-turned truths lit clause is =
-    subst (λ (l : Lit). false_on (with_lit truths l) clause ≡ true) (sym (negation-negation lit)) is
-
-pub Implies-refused : (lawful : List Value → (ℕ → Bool) → Type 0) (clauses : List (List Lit)) (truths : List (Option Bool)) (lit : Lit) (clause : List Lit) → IsLemma lawful clause → false_on (with_lit truths lit) clause ≡ true → Implies lawful clauses truths (negation lit) (Derived clause)
-Implies-refused lawful clauses truths lit clause holds is =
-    record { numbered = tt; follows = λ values v law _. holds values v law; is_false = false-turned truths lit clause is }
-
-pub Implies-conflict : (lawful : List Value → (ℕ → Bool) → Type 0) (clauses : List (List Lit)) (truths : List (Option Bool)) (lit : Lit) (conflict : List Lit) → IsConflict lawful clauses (with_lit truths lit) conflict → Implies lawful clauses truths (negation lit) (Derived conflict)
-Implies-conflict lawful clauses truths lit conflict is =
-    record { numbered = tt; follows = is.follows; is_false = false-turned truths lit conflict is.is_false }
-
--- A unit clause implies its literal, and one that is false is a conflict.
-pub Implies-unit : (lawful : List Value → (ℕ → Bool) → Type 0) (clauses : List (List Lit)) (truths : List (Option Bool)) (number : ℕ) (clause : List Lit) (lit : Lit) → number < length clauses → clause ≡ clause_at clauses number → IsUnit truths clause lit → Implies lawful clauses truths lit (Clause number)
-Implies-unit lawful clauses truths number clause lit within same unit =
-    record {
-      numbered = within;
-      follows = Follows-at lawful clauses number within;
-      is_false = subst (λ (c : List Lit). false_on (with_lit truths (negation lit)) c ≡ true) same unit.is_false;
-    }
-
-pub IsConflict-clause : (lawful : List Value → (ℕ → Bool) → Type 0) (clauses : List (List Lit)) (truths : List (Option Bool)) (number : ℕ) (clause : List Lit) → number < length clauses → clause ≡ clause_at clauses number → false_on truths clause ≡ true → IsConflict lawful clauses truths clause
-IsConflict-clause lawful clauses truths number clause within same is =
-    subst (λ (c : List Lit). IsConflict lawful clauses truths c) (sym same)
-    (record { follows = Follows-at lawful clauses number within; is_false = subst (λ (c : List Lit). false_on truths c ≡ true) same is })

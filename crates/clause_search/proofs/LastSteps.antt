@@ -1,7 +1,8 @@
-use Rattle.std.proofs.Common.{ℕ, ◌≡◌, ◌<◌, Bool, true, false, List, [], ◌∷◌, ◌++◌, length, Option, None, Some, Result, Ok, Err, IfOk, IfSome, IfNone, OnSome, refl, sym, ap, ◌∙◌, subst, arith, append_assoc}
+use Rattle.std.proofs.Common.{ℕ, ◌≡◌, ◌<◌, Bool, true, false, List, [], ◌∷◌, ◌++◌, length, Option, None, Some, Result, Ok, Err, IfOk}
+use Rattle.std.proofs.Common.{IfNone, refl, sym, ap, ◌∙◌, subst, arith}
 use Rattle.mbqi_values.specs.declared.lit.Lit.{Lit}
 use Rattle.mbqi_values.specs.declared.value.Value.{Value}
-use Rattle.clause_search.specs.Course.{is_chosen, no_truths, reason_lits, truths_after, truths_of, with_lit, with_step, Course, IsNumbered}
+use Rattle.clause_search.specs.Course.{is_chosen, no_truths, reason_lits, truths_after, truths_of, with_lit, with_step, Course}
 use Rattle.clause_search.specs.Following.{HasNoModel, IsConflict}
 use Rattle.clause_search.specs.Rank.{rank_of}
 use Rattle.clause_search.specs.Resolvent.{resolved_by}
@@ -15,7 +16,8 @@ use Rattle.clause_search.proofs.SoundSteps.{AreImplied-front, AreImplied-last}
 
 -- A trail whose last step goes.
 
-module _ (lawful : List Value → (ℕ → Bool) → Type 0) (clauses : List (List Lit)) (old new : Course) (last : Step) (atoms : new.atoms ≡ old.atoms) (steps : old.steps ≡ new.steps ++ last ∷ []) where
+module _ (lawful : List Value → (ℕ → Bool) → Type 0) (clauses : List (List Lit)) (old new : Course) (last : Step)
+    (atoms : new.atoms ≡ old.atoms) (steps : old.steps ≡ new.steps ++ last ∷ []) where
   sound_parts : IsSound lawful clauses old → AreImplied lawful clauses (no_truths new.atoms) (new.steps ++ last ∷ [])
   sound_parts sound =
       subst (λ (n : ℕ). AreImplied lawful clauses (no_truths n) (new.steps ++ last ∷ [])) (sym atoms)
@@ -25,7 +27,8 @@ module _ (lawful : List Value → (ℕ → Bool) → Type 0) (clauses : List (Li
   pub IsSound-front : IsSound lawful clauses old → IsSound lawful clauses new
   IsSound-front sound = AreImplied-front lawful clauses (no_truths new.atoms) new.steps (last ∷ []) (sound_parts sound)
 
-  pub Implies-last : IsSound lawful clauses old → is_chosen last.reason ≡ false → Implies lawful clauses (truths_of new) last.lit last.reason
+  pub Implies-last : IsSound lawful clauses old → is_chosen last.reason ≡ false
+      → Implies lawful clauses (truths_of new) last.lit last.reason
   Implies-last sound implied = AreImplied-last lawful clauses (no_truths new.atoms) new.steps last (sound_parts sound) implied
 
   -- The truths with it are those before it and its own.
@@ -34,18 +37,22 @@ module _ (lawful : List Value → (ℕ → Bool) → Type 0) (clauses : List (Li
       ap (λ (n : ℕ). truths_after (no_truths n) old.steps) (sym atoms)
       ∙ (ap (truths_after (no_truths new.atoms)) steps ∙ truths_after-push (no_truths new.atoms) new.steps last)
 
-  pub IsConflict-last : (conflict : List Lit) → IsConflict lawful clauses (truths_of old) conflict → IsConflict lawful clauses (with_lit (truths_of new) last.lit) conflict
+  pub IsConflict-last : (conflict : List Lit) → IsConflict lawful clauses (truths_of old) conflict
+      → IsConflict lawful clauses (with_lit (truths_of new) last.lit) conflict
   IsConflict-last conflict is = subst (λ (ts : List (Option Bool)). IsConflict lawful clauses ts conflict) truths_of-last is
 
   -- What is left of a conflict when an implied step goes.
-  pub IsConflict-before : (conflict : List Lit) → IsSound lawful clauses old → is_chosen last.reason ≡ false → last.lit.atom < new.atoms → IsConflict lawful clauses (truths_of old) conflict → IsConflict lawful clauses (truths_of new) (resolved_by conflict (reason_lits clauses last.reason) last.lit.atom)
+  pub IsConflict-before : (conflict : List Lit) → IsSound lawful clauses old → is_chosen last.reason ≡ false → last.lit.atom < new.atoms
+      → IsConflict lawful clauses (truths_of old) conflict
+      → IsConflict lawful clauses (truths_of new) (resolved_by conflict (reason_lits clauses last.reason) last.lit.atom)
   IsConflict-before conflict sound implied within is =
       IsConflict-resolved lawful clauses (truths_of new) last.lit last.reason conflict
       (subst (λ (n : ℕ). last.lit.atom < n) (sym (length-truths new.atoms new.steps)) within)
       (Implies-last sound implied) (IsConflict-last conflict is)
 
 -- Where no step is left, a conflict says that there is no model.
-pub HasNoModel-from_start : (lawful : List Value → (ℕ → Bool) → Type 0) (clauses : List (List Lit)) (trail : Course) (conflict : List Lit) → length trail.steps ≡ 0 → IsConflict lawful clauses (truths_of trail) conflict → HasNoModel lawful clauses
+pub HasNoModel-from_start : (lawful : List Value → (ℕ → Bool) → Type 0) (clauses : List (List Lit)) (trail : Course) (conflict : List Lit)
+    → length trail.steps ≡ 0 → IsConflict lawful clauses (truths_of trail) conflict → HasNoModel lawful clauses
 HasNoModel-from_start lawful clauses trail conflict none is =
     HasNoModel-from_conflict lawful clauses trail.atoms conflict
     (subst (λ (ss : List Step). IsConflict lawful clauses (truths_after (no_truths trail.atoms) ss) conflict) (empty trail.steps none) is)
@@ -55,26 +62,12 @@ HasNoModel-from_start lawful clauses trail conflict none is =
     empty (step ∷ more) is_none = absurd (omega arith)
 
 -- Once a choice is turned, the rank is above that of each trail that began with it.
-pub turned_rises : {E : Type 0} (result : Result (Option (List Lit)) E) (old front new : Course) (last : Step) (turned : Lit) (reason : Reason) → front.atoms ≡ old.atoms → old.steps ≡ front.steps ++ last ∷ [] → length front.steps < front.atoms → is_chosen last.reason ≡ true → is_chosen reason ≡ false → IfOk result (λ next. IfNone next (new ≡ with_step front turned reason)) → IfOk result (λ next. IfNone next ((rest : List Step) → rank_of (record old { steps = old.steps ++ rest }) < rank_of new))
+pub turned_rises : {E : Type 0} (result : Result (Option (List Lit)) E) (old front new : Course) (last : Step) (turned : Lit)
+    (reason : Reason)
+    → front.atoms ≡ old.atoms → old.steps ≡ front.steps ++ last ∷ [] → length front.steps < front.atoms → is_chosen last.reason ≡ true
+    → is_chosen reason ≡ false → IfOk result (λ next. IfNone next (new ≡ with_step front turned reason))
+    → IfOk result (λ next. IfNone next ((rest : List Step) → rank_of (record old { steps = old.steps ++ rest }) < rank_of new))
 turned_rises (Ok None) old front new last turned reason atoms steps room chosen implied is =
     rank-rises old front new last turned reason atoms steps is room chosen implied
 turned_rises (Ok (Some next)) old front new last turned reason atoms steps room chosen implied is = tt
 turned_rises (Err error) old front new last turned reason atoms steps room chosen implied is = tt
-
--- Where the choice wasn't turned, the last step is gone.
-pub kept_front : {E : Type 0} (result : Result (Option (List Lit)) E) (old front new : Course) (last : Step) → old.steps ≡ front.steps ++ last ∷ [] → IfOk result (λ next. OnSome next (new ≡ front)) → IfOk result (λ next. OnSome next ((step : Step) × (old.steps ≡ new.steps ++ step ∷ [])))
-kept_front (Ok None) old front new last steps kept = tt
-kept_front (Ok (Some next)) old front new last steps kept =
-    (last, steps ∙ ap (λ (t : Course). t.steps ++ last ∷ []) (sym kept))
-kept_front (Err error) old front new last steps kept = tt
-
--- The rank of the first trail of which the later ones are fronts.
-pub rank-first : (first old new : Course) (rest : List Step) → old.atoms ≡ first.atoms → first.steps ≡ old.steps ++ rest → ((more : List Step) → rank_of (record old { steps = old.steps ++ more }) < rank_of new) → rank_of first < rank_of new
-rank-first first old new rest atoms steps rises =
-    let same : record old { steps = old.steps ++ rest } ≡ first = λ i. record { atoms = atoms i; steps = sym steps i } in
-    subst (λ (t : Course). rank_of t < rank_of new) same (rises rest)
-
--- A front of a front is a front.
-pub front_of : (first old new : List Step) (last : Step) (rest : List Step) → first ≡ old ++ rest → old ≡ new ++ last ∷ [] → first ≡ new ++ last ∷ rest
-front_of first old new last rest is steps =
-    is ∙ (ap (λ (ss : List Step). ss ++ rest) steps ∙ append_assoc new (last ∷ []) rest)

@@ -14,7 +14,6 @@ pub mod Resolution
 pub mod SoleTruths
 pub mod SoundSteps
 pub mod Standings
-pub mod Starting
 pub mod TrailSteps
 pub mod TruthsAt
 pub mod UnitClauses

@@ -14,7 +14,8 @@ rank-below zero steps = omega arith
 rank-below (suc places) [] = let more = power-positive places in omega arith
 rank-below (suc places) (step ∷ steps) =
     let rest = rank-below places steps in
-    elim (is_chosen step.reason) as (λ b. cond b (power_of_three places) (power_of_three places + power_of_three places) + rank_from places steps < power_of_three places + power_of_three places + power_of_three places) [ true ↦ omega arith | false ↦ omega arith ]
+    elim (is_chosen step.reason) as (λ b. cond b (power_of_three places) (power_of_three places + power_of_three places) + rank_from places
+    steps < power_of_three places + power_of_three places + power_of_three places) [ true ↦ omega arith | false ↦ omega arith ]
 
 -- More steps have no lower rank, and a higher one where there is room.
 pub rank-append : (places : ℕ) (steps more : List Step) → rank_from places steps ≤ rank_from places (steps ++ more)
@@ -25,16 +26,20 @@ rank-append (suc places) (step ∷ steps) more = let rest = rank-append places s
 rank-some : (places : ℕ) (step : Step) (steps : List Step) → 0 < rank_from (suc places) (step ∷ steps)
 rank-some places step steps =
     let positive = power-positive places in
-    elim (is_chosen step.reason) as (λ b. 0 < cond b (power_of_three places) (power_of_three places + power_of_three places) + rank_from places steps) [ true ↦ omega arith | false ↦ omega arith ]
+    elim (is_chosen step.reason) as (λ b. 0 < cond b (power_of_three places) (power_of_three places + power_of_three places) + rank_from
+    places steps) [ true ↦ omega arith | false ↦ omega arith ]
 
-pub rank-more : (places : ℕ) (steps more : List Step) → length steps < places → 0 < length more → rank_from places steps < rank_from places (steps ++ more)
+pub rank-more : (places : ℕ) (steps more : List Step) → length steps < places → 0 < length more
+    → rank_from places steps < rank_from places (steps ++ more)
 rank-more zero steps more room some = absurd (omega arith)
 rank-more (suc places) [] [] room some = absurd (omega arith)
 rank-more (suc places) [] (step ∷ more) room some = rank-some places step more
 rank-more (suc places) (step ∷ steps) more room some = let rest = rank-more places steps more (omega arith) some in omega arith
 
 -- A choice that is turned has a higher rank, whatever stood behind it.
-pub rank-turned : (places : ℕ) (steps : List Step) (chosen turned : Step) (rest : List Step) → length steps < places → is_chosen chosen.reason ≡ true → is_chosen turned.reason ≡ false → rank_from places (steps ++ chosen ∷ rest) < rank_from places (steps ++ turned ∷ [])
+pub rank-turned : (places : ℕ) (steps : List Step) (chosen turned : Step) (rest : List Step) → length steps < places
+    → is_chosen chosen.reason ≡ true → is_chosen turned.reason ≡ false
+    → rank_from places (steps ++ chosen ∷ rest) < rank_from places (steps ++ turned ∷ [])
 rank-turned zero steps chosen turned rest room is isnt = absurd (omega arith)
 rank-turned (suc places) [] chosen turned rest room is isnt =
     let below = rank-below places rest in

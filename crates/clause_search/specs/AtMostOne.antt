@@ -14,15 +14,12 @@ abbrev pub at_most_one : List Lit → Bool
 at_most_one [] = true
 at_most_one (lit ∷ lits) = if lit.yes then list_all (λ other. not other.yes) lits else at_most_one lits
 
--- The literals of a clash.
-abbrev pub pair_of : Lit → Lit → List Lit
-pair_of one other = one ∷ other ∷ []
-
 -- Two literals of different atoms, both taken as true, of which the first is of the content.
 abbrev pub is_clash : List Lit → List Lit → Bool
 is_clash content [] = false
 is_clash content (one ∷ []) = false
-is_clash content (one ∷ other ∷ rest) = contains_lit content one && one.yes && other.yes && not (one.atom == other.atom)
+is_clash content (one ∷ other ∷ []) = contains_lit content one && one.yes && other.yes && not (one.atom == other.atom)
+is_clash content (one ∷ other ∷ more ∷ rest) = false
 
 -- What is kept of a clash, if there was one.
 abbrev pub keeps_clash : Bool → List Lit → List Lit → Bool

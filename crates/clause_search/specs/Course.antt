@@ -1,4 +1,5 @@
-use Rattle.std.specs.Prelude.{◌≡◌, ℕ, ◌+◌, ◌<◌, Bool, true, false, if◌then◌else◌, List, [], ◌∷◌, ◌++◌, Option, None, Some, length, map, replicate, slice_index_or, slice_set}
+use Rattle.std.specs.Prelude.{◌≡◌, ℕ, ◌+◌, ◌<◌, Bool, true, false, if◌then◌else◌, List, [], ◌∷◌, ◌++◌, Option, None, Some, length, map}
+use Rattle.std.specs.Prelude.{replicate, slice_index_or, slice_set}
 use Rattle.mbqi_values.specs.declared.lit.Lit.{Lit}
 use Rattle.clause_search.specs.Truths.{atom_on}
 use Rattle.clause_search.specs.declared.step.Reason.{Reason}
@@ -55,7 +56,8 @@ truths_of trail = truths_after (no_truths trail.atoms) trail.steps
 -- Each step gives a truth to an atom that was free.
 abbrev pub AreFresh : List (Option Bool) → List Step → Type 0
 AreFresh truths [] = Unit {0}
-AreFresh truths (step ∷ steps) = (step.lit.atom < length truths) × (atom_on truths step.lit.atom ≡ None) × AreFresh (with_lit truths step.lit) steps
+AreFresh truths (step ∷ steps) =
+    (step.lit.atom < length truths) × (atom_on truths step.lit.atom ≡ None) × AreFresh (with_lit truths step.lit) steps
 
 -- The trail with one step more.
 abbrev pub with_step : Course → Lit → Reason → Course
@@ -68,4 +70,5 @@ Extends old new = (added : List Step) × (new ≡ record old { steps = old.steps
 -- By step that was chosen, how many steps were before it.
 abbrev pub choices_from : ℕ → List Step → List ℕ
 choices_from before [] = []
-choices_from before (step ∷ steps) = if is_chosen step.reason then before ∷ choices_from (before + 1) steps else choices_from (before + 1) steps
+choices_from before (step ∷ steps) =
+    if is_chosen step.reason then before ∷ choices_from (before + 1) steps else choices_from (before + 1) steps

@@ -13,13 +13,15 @@ HasNoModel lawful clauses = (values : List Value) (truths : ℕ → Bool) → la
 
 -- The clause follows from the clauses: a lawful valuation that makes each of them true makes it true.
 abbrev pub Follows : (List Value → (ℕ → Bool) → Type 0) → List (List Lit) → List Lit → Type 0
-Follows lawful clauses clause = (values : List Value) (truths : ℕ → Bool) → lawful values truths → all_true truths clauses ≡ true → clause_true truths clause ≡ true
+Follows lawful clauses clause =
+    (values : List Value) (truths : ℕ → Bool) → lawful values truths → all_true truths clauses ≡ true → clause_true truths clause ≡ true
 
 -- The clause holds in the theory: each lawful valuation makes it true.
 abbrev pub IsLemma : (List Value → (ℕ → Bool) → Type 0) → List Lit → Type 0
 IsLemma lawful clause = (values : List Value) (truths : ℕ → Bool) → lawful values truths → clause_true truths clause ≡ true
 
 -- A conflict: a clause that follows from the clauses, and is false.
-pub record IsConflict (lawful : List Value → (ℕ → Bool) → Type 0) (clauses : List (List Lit)) (truths : List (Option Bool)) (clause : List Lit) : Type 0 where
+pub record IsConflict (lawful : List Value → (ℕ → Bool) → Type 0) (clauses : List (List Lit)) (truths : List (Option Bool))
+    (clause : List Lit) : Type 0 where
   pub follows : Follows lawful clauses clause
   pub is_false : false_on truths clause ≡ true

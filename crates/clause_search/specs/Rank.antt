@@ -12,7 +12,8 @@ power_of_three (suc n) = power_of_three n + power_of_three n + power_of_three n
 abbrev pub rank_from : ℕ → List Step → ℕ
 rank_from zero steps = 0
 rank_from (suc places) [] = 0
-rank_from (suc places) (step ∷ steps) = (if is_chosen step.reason then power_of_three places else power_of_three places + power_of_three places) + rank_from places steps
+rank_from (suc places) (step ∷ steps) =
+    (if is_chosen step.reason then power_of_three places else power_of_three places + power_of_three places) + rank_from places steps
 
 abbrev pub rank_of : Course → ℕ
 rank_of trail = rank_from trail.atoms trail.steps

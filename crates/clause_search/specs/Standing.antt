@@ -13,7 +13,8 @@ use Rattle.clause_search.specs.declared.step.Step.{Step}
 -- How the search stands between its calls (this project's own).
 
 -- The reason implies the literal: its clause follows, and is false once the literal is.
-pub record Implies (lawful : List Value → (ℕ → Bool) → Type 0) (clauses : List (List Lit)) (truths : List (Option Bool)) (lit : Lit) (reason : Reason) : Type 0 where
+pub record Implies (lawful : List Value → (ℕ → Bool) → Type 0) (clauses : List (List Lit)) (truths : List (Option Bool)) (lit : Lit)
+    (reason : Reason) : Type 0 where
   pub numbered : IsNumbered clauses reason
   pub follows : Follows lawful clauses (reason_lits clauses reason)
   pub is_false : false_on (with_lit truths (negation lit)) (reason_lits clauses reason) ≡ true
@@ -21,7 +22,9 @@ pub record Implies (lawful : List Value → (ℕ → Bool) → Type 0) (clauses 
 -- Each step that wasn't chosen is implied by its reason and the steps before it.
 abbrev pub AreImplied : (List Value → (ℕ → Bool) → Type 0) → List (List Lit) → List (Option Bool) → List Step → Type 0
 AreImplied lawful clauses truths [] = Unit {0}
-AreImplied lawful clauses truths (step ∷ steps) = (is_chosen step.reason ≡ false → Implies lawful clauses truths step.lit step.reason) × AreImplied lawful clauses (with_lit truths step.lit) steps
+AreImplied lawful clauses truths (step ∷ steps) =
+    (is_chosen step.reason ≡ false → Implies lawful clauses truths step.lit step.reason)
+    × AreImplied lawful clauses (with_lit truths step.lit) steps
 
 abbrev pub IsSound : (List Value → (ℕ → Bool) → Type 0) → List (List Lit) → Course → Type 0
 IsSound lawful clauses trail = AreImplied lawful clauses (no_truths trail.atoms) trail.steps

@@ -75,7 +75,8 @@ pub(crate) fn imply<T: Theory>(
     ensures added { IfOk result (λ conflict. IfNone conflict (trail.new ≡ with_step trail.old lit reason)) }
     ensures kept { IfOk result (λ conflict. OnSome conflict (trail.new ≡ trail.old)) }
     ensures extends { Extends trail.old trail.new }
-    ensures conflict { IfOk result (λ conflict. IfSome conflict (IsConflict (T.lawful (T.problem theory.new)) clauses.now (truths_of trail.new))) }
+    ensures conflict { IfOk result (λ conflict.
+        IfSome conflict (IsConflict (T.lawful (T.problem theory.new)) clauses.now (truths_of trail.new))) }
 {
     trail.is_fresh();
     match theory.assume(lit) {
@@ -139,10 +140,18 @@ pub(crate) fn choose<T: Theory>(
     ensures extends { Extends trail.old trail.new }
     ensures more { IfOk result (λ conflict. IfNone conflict (length trail.old.steps < length trail.new.steps)) }
     ensures decided { IfOk result (λ conflict. IfNone conflict (is_some (atom_on (truths_of trail.new) lit.atom) ≡ true)) }
-    ensures conflict { IfOk result (λ conflict. IfSome conflict (IsConflict (T.lawful (T.problem theory.new)) clauses.now (truths_of trail.new))) }
+    ensures conflict { IfOk result (λ conflict.
+        IfSome conflict (IsConflict (T.lawful (T.problem theory.new)) clauses.now (truths_of trail.new))) }
 {
     let Some(refusal) = try_choice(alloc, theory, trail, lit)? else {
         return Ok(None);
     };
-    imply(alloc, clauses, theory, trail, lit.negated(), Reason::Derived(refusal))
+    imply(
+        alloc,
+        clauses,
+        theory,
+        trail,
+        lit.negated(),
+        Reason::Derived(refusal),
+    )
 }

@@ -41,7 +41,9 @@ pub(crate) fn is_free_lit(truths: &[Option<bool>], lit: Lit) -> bool
 fn is_true_on(truths: &[Option<bool>], clause: &[Lit]) -> bool
     ensures { result ≡ true_on truths.now clause.now }
 {
-    clause.iter().any(|lit| truth(truths, *lit).unwrap_or(false))
+    clause
+        .iter()
+        .any(|lit| truth(truths, *lit).unwrap_or(false))
 }
 
 // How many literals of the clause are free.

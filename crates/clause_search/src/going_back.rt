@@ -95,7 +95,8 @@ fn undo_last<T: Theory>(
     ensures covers { Covers T.Theory theory.new trail.new }
     ensures sound { IsSound (T.lawful (T.problem theory.new)) clauses.now trail.new }
     ensures turned { IfOk result (λ next. IfNone next (Stands T.Theory theory.new trail.new)) }
-    ensures rises { IfOk result (λ next. IfNone next ((rest : List Step) → rank_of (record trail.old { steps = trail.old.steps ++ rest }) < rank_of trail.new)) }
+    ensures rises { IfOk result (λ next.
+        IfNone next ((rest : List Step) → rank_of (record trail.old { steps = trail.old.steps ++ rest }) < rank_of trail.new)) }
     ensures front { IfOk result (λ next. OnSome next ((last : Step) × (trail.old.steps ≡ trail.new.steps ++ last ∷ []))) }
     ensures conflict { IfOk result (λ next. IfSome next (IsConflict (T.lawful (T.problem theory.new)) clauses.now (truths_of trail.new))) }
 {

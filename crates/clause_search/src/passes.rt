@@ -45,7 +45,8 @@ fn visit<T: Theory>(
     ensures stands { Stands T.Theory theory.new trail.new }
     ensures sound { IsSound (T.lawful (T.problem theory.new)) clauses.now trail.new }
     ensures extends { Extends trail.old trail.new }
-    ensures conflict { IfOk result (λ conflict. IfSome conflict (IsConflict (T.lawful (T.problem theory.new)) clauses.now (truths_of trail.new))) }
+    ensures conflict { IfOk result (λ conflict.
+        IfSome conflict (IsConflict (T.lawful (T.problem theory.new)) clauses.now (truths_of trail.new))) }
 {
     let clause = clauses[number].as_slice();
     match clause_truth(trail.truths(), clause) {
@@ -77,7 +78,8 @@ fn propagate<T: Theory>(
     ensures stands { Stands T.Theory theory.new trail.new }
     ensures sound { IsSound (T.lawful (T.problem theory.new)) clauses.now trail.new }
     ensures extends { Extends trail.old trail.new }
-    ensures conflict { IfOk result (λ conflict. IfSome conflict (IsConflict (T.lawful (T.problem theory.new)) clauses.now (truths_of trail.new))) }
+    ensures conflict { IfOk result (λ conflict.
+        IfSome conflict (IsConflict (T.lawful (T.problem theory.new)) clauses.now (truths_of trail.new))) }
 {
     for number in 0..clauses.len() {
         if let Some(conflict) = visit(alloc, clauses, theory, trail, number)? {
@@ -104,7 +106,8 @@ fn fill_atom<T: Theory>(
     ensures sound { IsSound (T.lawful (T.problem theory.new)) clauses.now trail.new }
     ensures extends { Extends trail.old trail.new }
     ensures decided { IfOk result (λ conflict. IfNone conflict (is_some (lit_on (truths_of trail.new) lit) ≡ true)) }
-    ensures conflict { IfOk result (λ conflict. IfSome conflict (IsConflict (T.lawful (T.problem theory.new)) clauses.now (truths_of trail.new))) }
+    ensures conflict { IfOk result (λ conflict.
+        IfSome conflict (IsConflict (T.lawful (T.problem theory.new)) clauses.now (truths_of trail.new))) }
 {
     if !is_free_lit(trail.truths(), lit) {
         return Ok(None);
@@ -132,7 +135,8 @@ fn fill_clause<T: Theory>(
     ensures sound { IsSound (T.lawful (T.problem theory.new)) clauses.now trail.new }
     ensures extends { Extends trail.old trail.new }
     ensures decided { IfOk result (λ conflict. IfNone conflict (decided_on (truths_of trail.new) clause.now ≡ true)) }
-    ensures conflict { IfOk result (λ conflict. IfSome conflict (IsConflict (T.lawful (T.problem theory.new)) clauses.now (truths_of trail.new))) }
+    ensures conflict { IfOk result (λ conflict.
+        IfSome conflict (IsConflict (T.lawful (T.problem theory.new)) clauses.now (truths_of trail.new))) }
 {
     for lit in clause {
         if let Some(conflict) = fill_atom(alloc, clauses, theory, trail, *lit)? {
@@ -158,7 +162,8 @@ fn fill<T: Theory>(
     ensures sound { IsSound (T.lawful (T.problem theory.new)) clauses.now trail.new }
     ensures extends { Extends trail.old trail.new }
     ensures decided { IfOk result (λ conflict. IfNone conflict (list_all (decided_on (truths_of trail.new)) clauses.now ≡ true)) }
-    ensures conflict { IfOk result (λ conflict. IfSome conflict (IsConflict (T.lawful (T.problem theory.new)) clauses.now (truths_of trail.new))) }
+    ensures conflict { IfOk result (λ conflict.
+        IfSome conflict (IsConflict (T.lawful (T.problem theory.new)) clauses.now (truths_of trail.new))) }
 {
     for clause in clauses {
         if let Some(conflict) = fill_clause(alloc, clauses, theory, trail, clause.as_slice())? {
@@ -186,7 +191,8 @@ fn finish<T: Theory>(
     ensures extends { Extends trail.old trail.new }
     ensures full { IfOk result (λ advanced. OnFull advanced (IsFull clauses.now (truths_of trail.new))) }
     ensures grown { IfOk result (λ advanced. OnGrown advanced (length trail.old.steps < length trail.new.steps)) }
-    ensures conflict { IfOk result (λ advanced. IfConflict advanced (IsConflict (T.lawful (T.problem theory.new)) clauses.now (truths_of trail.new))) }
+    ensures conflict { IfOk result (λ advanced.
+        IfConflict advanced (IsConflict (T.lawful (T.problem theory.new)) clauses.now (truths_of trail.new))) }
 {
     match fill(alloc, clauses, theory, trail)? {
         Some(conflict) => Ok(Advanced::Conflict(conflict)),
@@ -213,7 +219,8 @@ fn decide<T: Theory>(
     ensures extends { Extends trail.old trail.new }
     ensures full { IfOk result (λ advanced. OnFull advanced (IsFull clauses.now (truths_of trail.new))) }
     ensures grown { IfOk result (λ advanced. OnGrown advanced (length trail.old.steps < length trail.new.steps)) }
-    ensures conflict { IfOk result (λ advanced. IfConflict advanced (IsConflict (T.lawful (T.problem theory.new)) clauses.now (truths_of trail.new))) }
+    ensures conflict { IfOk result (λ advanced.
+        IfConflict advanced (IsConflict (T.lawful (T.problem theory.new)) clauses.now (truths_of trail.new))) }
 {
     let Some(clause) = shortest_open(trail.truths(), clauses) else {
         return finish(alloc, clauses, theory, trail);
@@ -243,7 +250,8 @@ pub(crate) fn advance<T: Theory>(
     ensures extends { Extends trail.old trail.new }
     ensures full { IfOk result (λ advanced. OnFull advanced (IsFull clauses.now (truths_of trail.new))) }
     ensures grown { IfOk result (λ advanced. OnGrown advanced (length trail.old.steps < length trail.new.steps)) }
-    ensures conflict { IfOk result (λ advanced. IfConflict advanced (IsConflict (T.lawful (T.problem theory.new)) clauses.now (truths_of trail.new))) }
+    ensures conflict { IfOk result (λ advanced.
+        IfConflict advanced (IsConflict (T.lawful (T.problem theory.new)) clauses.now (truths_of trail.new))) }
 {
     let before = trail.len();
     if let Some(conflict) = propagate(alloc, clauses, theory, trail)? {

@@ -24,6 +24,7 @@ pub(crate) struct Step {
 }
 
 impl Reason {
+    /// Whether the search chose the literal.
     pub(crate) fn is_chosen(&self) -> bool
         ensures { result ≡ is_chosen self.now }
     {

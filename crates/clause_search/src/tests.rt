@@ -114,7 +114,11 @@ fn small_clauses_are_decided(rt: HostRuntime) -> Result<(), Fail> {
     let unit: [&[i16]; 2] = [&[1, 2], &[1]];
     assert_eq!(rt; found_of(alloc, 2, &none)?, Some(0), "no clause");
     assert_eq!(rt; found_of(alloc, 2, &empty)?, None, "an empty clause");
-    assert_eq!(rt; found_of(alloc, 2, &four)?, None, "the four clauses of two atoms");
+    assert_eq!(rt;
+        found_of(alloc, 2, &four)?,
+        None,
+        "the four clauses of two atoms"
+    );
     assert_eq!(rt; found_of(alloc, 2, &four[..3])?, Some(2), "three of them");
     assert_eq!(rt; found_of(alloc, 2, &unit)?, Some(2), "x or y, and x");
     Ok(())

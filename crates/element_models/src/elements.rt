@@ -4,8 +4,8 @@ ghost use Rattle.std.specs.Prelude.{◌≡◌, ◌++◌, length, replicate, IfOk
 ghost use Rattle.element_atoms.specs.Profile.{is_constant};
 ghost use Rattle.element_models.specs.Elements.{elements_from, knots_of, bare_table, table_for, tables_from, no_rows, hidden_from};
 
-use function_model::{Rows, Table, TableName, ValueLists};
 use element_atoms::Pool;
+use function_model::{Rows, Table, TableName, ValueLists};
 use mbqi_terms::{Function, Sort};
 use mbqi_values::{Sequence, Sizes, Value, Values};
 use std::alloc::{AllocError, Global};

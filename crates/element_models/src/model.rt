@@ -16,8 +16,8 @@ ghost use Rattle.element_models.specs.Rows.{rows_of};
 
 use crate::elements::{element_tables, push_hidden, same_sizes, universe_size};
 use crate::rows::{put_rows, raise_tables};
-use function_model::{FunctionModel, Table, rows_fit};
 use element_atoms::{GroundAtom, Pool};
+use function_model::{FunctionModel, Table, rows_fit};
 use mbqi_terms::{Function, Script};
 use mbqi_values::Sequence;
 use std::alloc::{AllocError, Global};

@@ -25,7 +25,7 @@ others_made lit all (other ∷ rest) free each =
     let IsToo : Lit → Type 0 = λ o. is_made_true (lit ∷ all) o.atom ≡ o.yes in
     let parts = and_parts (not (eqb other.atom lit.atom)) (list_all (λ (o : Lit). not (eqb o.atom lit.atom)) rest) free in
     let differs : eqb lit.atom other.atom ≡ false = ne_eqb lit.atom other.atom
-        (λ (e : lit.atom ≡ other.atom). false≢true (sym (not-true (eqb other.atom lit.atom) parts.0) ∙ eq-eqb other.atom lit.atom (sym e))) in
+    (λ (e : lit.atom ≡ other.atom). false≢true (sym (not-true (eqb other.atom lit.atom) parts.0) ∙ eq-eqb other.atom lit.atom (sym e))) in
     let here : ((eqb lit.atom other.atom && lit.yes) || is_made_true all other.atom) ≡ other.yes = rw differs (All-head Is other rest each) in
     All-cons IsToo other rest here (others_made lit all rest parts.1 (All-tail Is other rest each))
 
@@ -39,7 +39,7 @@ made_each [] differ = All-nil _
 made_each (lit ∷ lits) differ =
     let Is : Lit → Type 0 = λ o. is_made_true (lit ∷ lits) o.atom ≡ o.yes in
     let here : ((eqb lit.atom lit.atom && lit.yes) || is_made_true lits lit.atom) ≡ lit.yes =
-        rw (eq-eqb lit.atom lit.atom refl, none_made lits lit.atom differ.0) (or_none lit.yes) in
+    rw (eq-eqb lit.atom lit.atom refl, none_made lits lit.atom differ.0) (or_none lit.yes) in
     All-cons Is lit lits here (others_made lit lits lits differ.0 (made_each lits differ.1))
 
 own_true : (yes : Bool) → (if yes then yes else not yes) ≡ true

@@ -29,11 +29,11 @@ impl Model for FreeTheory {
     ghost Value = { Free };
 
     ghost view = { λ t. record {
-        atoms = t.atoms;
-        content = t.content.items;
-        frames = t.frames.items;
-        spare = t.spare;
-        spare_frames = t.spare_frames;
+      atoms = t.atoms;
+      content = t.content.items;
+      frames = t.frames.items;
+      spare = t.spare;
+      spare_frames = t.spare_frames;
     } };
 
     ghost invariant = { λ t. IsInOrder t.content.items t.frames.items

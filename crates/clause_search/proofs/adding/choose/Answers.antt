@@ -14,7 +14,8 @@ returns-in_default-clause-sound g c =
     let trail = c.try_choice.new.trail in
     let added : trail ≡ with_step c.args.trail.now c.args.lit Chosen = search rules in
     IsSound-moved theory.lawful clauses trail old new (sym c.try_choice.ensures.problem)
-    (IsSound-step (theory.lawful old) clauses c.args.trail.now trail c.args.lit Chosen added c.requires.sound (λ chosen. absurd (true≢false chosen)))
+    (IsSound-step (theory.lawful old) clauses c.args.trail.now trail c.args.lit Chosen added c.requires.sound
+    (λ chosen. absurd (true≢false chosen)))
 
 pub returns-in_default-clause-decided : goal.returns-in_default-clause-decided
 returns-in_default-clause-decided g c =
@@ -28,4 +29,5 @@ returns-clause-decided g c =
     let atoms = ap (λ (t : Course). t.atoms) kept in
     let same : c.negated.result.atom ≡ c.args.lit.atom = search rules in
     let within : c.negated.result.atom < before.atoms = omega (arith, atoms, same, c.requires.within) in
-    decided_by_step c.imply.result before c.imply.new.trail c.negated.result (Derived c.in-Some.refusal) c.args.lit.atom same within c.imply.ensures.added
+    decided_by_step c.imply.result before c.imply.new.trail c.negated.result (Derived c.in-Some.refusal) c.args.lit.atom same within
+    c.imply.ensures.added

@@ -22,5 +22,7 @@ returns-clause-is_false g c =
     let state = c.args.theory.now in
     let trail = c.args.trail.now in
     let lent = c.clash.result.now in
-    IfOk-at c.negations.result (map negation lent) (λ (clause : List Lit). false_on (with_lit (truths_of trail) c.args.lit) clause ≡ true) c.negations.ensures
-    (refusal_fails trail (theory.clashed state) c.args.lit (theory.content state) lent c.is_fresh.ensures c.requires.within c.requires.free c.requires.content c.requires.clashed c.clash.ensures.part)
+    IfOk-at c.negations.result (map negation lent) (λ (clause : List Lit). false_on (with_lit (truths_of trail) c.args.lit) clause ≡ true)
+    c.negations.ensures
+    (refusal_fails trail (theory.clashed state) c.args.lit (theory.content state) lent c.is_fresh.ensures c.requires.within c.requires.free
+    c.requires.content c.requires.clashed c.clash.ensures.part)

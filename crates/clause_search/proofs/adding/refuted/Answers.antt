@@ -18,5 +18,8 @@ returns g c =
     let lit = c.args.lit in
     let refusal = c.in_ok-clause in
     let parts = ap₂ (λ (left right : List Lit). resolvent_of left right lit.atom) c.as_slice.ensures c.lits.ensures in
-    IfOk-at c.resolvent.result (resolvent_of c.as_slice.result.now c.lits.result.now lit.atom) (IsConflict lawful clauses (truths_of trail)) c.resolvent.ensures
-    (subst (IsConflict lawful clauses (truths_of trail)) (sym parts) (refuted_conflict lawful clauses trail lit c.args.reason refusal.clause c.requires.within refusal.ensures.lemma refusal.ensures.is_false c.requires.implied))
+    IfOk-at c.resolvent.result (resolvent_of c.as_slice.result.now c.lits.result.now lit.atom) (IsConflict lawful clauses (truths_of trail))
+    c.resolvent.ensures
+    (subst (IsConflict lawful clauses (truths_of trail)) (sym parts)
+    (refuted_conflict lawful clauses trail lit c.args.reason refusal.clause c.requires.within refusal.ensures.lemma
+    refusal.ensures.is_false c.requires.implied))

@@ -9,4 +9,5 @@ returns-in-None c =
 
 pub returns-in-Some : goal.returns-in-Some
 returns-in-Some c =
-    unit_clause c.args.truths.now c.args.clause.now c.in-Some.lit c.requires (sym c.if-is_true_on.ensures) (sym c.in-Some.ensures) (sym c.free_lits.ensures ∙ c.if-free_lits-eq1.true)
+    unit_clause c.args.truths.now c.args.clause.now c.in-Some.lit c.requires (sym c.if-is_true_on.ensures) (sym c.in-Some.ensures)
+    (sym c.free_lits.ensures ∙ c.if-free_lits-eq1.true)

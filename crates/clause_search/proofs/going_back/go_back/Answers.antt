@@ -6,4 +6,5 @@ pub returns-clause-none : goal.returns-clause-none
 returns-clause-none g c =
     let theory = g.T.Theory in
     let none : length c.back.trail.steps ≡ 0 = omega arith in
-    HasNoModel-from_start (theory.lawful (theory.problem c.back.theory)) c.args.clauses.now c.back.trail c.back.conflict none c.back.invariant.clash
+    HasNoModel-from_start (theory.lawful (theory.problem c.back.theory)) c.args.clauses.now c.back.trail c.back.conflict none
+    c.back.invariant.clash

@@ -18,7 +18,12 @@ turn-requires-clause-stands g c =
     let closed = c.pop.new.self in
     let steps : old.steps ≡ front.steps ++ last ∷ [] = search rules in
     let chosen : is_chosen last.reason ≡ true = search rules in
-    let closes : Closes theory state closed = record { keeps = record { same = c.pop.ensures.problem; room = c.pop.ensures.room; frame_room = c.pop.ensures.frame_room }; content = c.pop.ensures.content; frames = c.pop.ensures.frames } in
+    let closes : Closes theory state closed = record {
+      keeps = record
+          { same = c.pop.ensures.problem; room = c.pop.ensures.room; frame_room = c.pop.ensures.frame_room };
+      content = c.pop.ensures.content;
+      frames = c.pop.ensures.frames;
+    } in
     Stands-undone theory state closed old front last c.requires.covers c.take_last.ensures.atoms steps chosen closes
 
 pub turn-requires-clause-sound : goal.turn-requires-clause-sound
@@ -40,8 +45,10 @@ turn-requires-clause-conflict g c =
     let last = c.unwrap-step.result in
     let before = theory.problem c.args.theory.now in
     let steps : old.steps ≡ front.steps ++ last ∷ [] = search rules in
-    IsConflict-moved theory.lawful c.args.clauses.now (with_lit (truths_of front) last.lit) c.args.conflict before (theory.problem c.pop.new.self) (sym c.pop.ensures.problem)
-    (IsConflict-last (theory.lawful before) c.args.clauses.now old front last c.take_last.ensures.atoms steps c.args.conflict c.requires.conflict)
+    IsConflict-moved theory.lawful c.args.clauses.now (with_lit (truths_of front) last.lit) c.args.conflict before
+    (theory.problem c.pop.new.self) (sym c.pop.ensures.problem)
+    (IsConflict-last (theory.lawful before) c.args.clauses.now old front last c.take_last.ensures.atoms steps c.args.conflict
+    c.requires.conflict)
 
 pub returns-then-is_chosen-clause-rises : goal.returns-then-is_chosen-clause-rises
 returns-then-is_chosen-clause-rises g c =
@@ -52,7 +59,8 @@ returns-then-is_chosen-clause-rises g c =
     let chosen : is_chosen last.reason ≡ true = search rules in
     let within : last.lit.atom < front.atoms = search rules in
     let room = step_fits front.atoms front.steps last.lit.atom c.is_fresh.ensures within (search rules) in
-    turned_rises c.turn.result old front c.turn.new.trail last (negation last.lit) (Derived c.args.conflict) c.take_last.ensures.atoms steps room chosen refl c.turn.ensures.turned
+    turned_rises c.turn.result old front c.turn.new.trail last (negation last.lit) (Derived c.args.conflict) c.take_last.ensures.atoms steps
+    room chosen refl c.turn.ensures.turned
 
 pub resolved-requires : goal.resolved-requires
 resolved-requires g c =
@@ -62,7 +70,8 @@ resolved-requires g c =
     let last = c.unwrap-step.result in
     let steps : old.steps ≡ front.steps ++ last ∷ [] = search rules in
     let implied : is_chosen last.reason ≡ false = search rules in
-    let why = Implies-last (theory.lawful (theory.problem c.args.theory.now)) c.args.clauses.now old front last c.take_last.ensures.atoms steps c.requires.sound implied in
+    let why = Implies-last (theory.lawful (theory.problem c.args.theory.now)) c.args.clauses.now old front last c.take_last.ensures.atoms
+    steps c.requires.sound implied in
     why.numbered
 
 pub returns-in_err-resolved-clause-covers : goal.returns-in_err-resolved-clause-covers
@@ -81,7 +90,8 @@ returns-in_err-resolved-clause-sound g c =
     let front = c.take_last.new.self in
     let last = c.unwrap-step.result in
     let steps : old.steps ≡ front.steps ++ last ∷ [] = search rules in
-    IsSound-front (theory.lawful (theory.problem c.args.theory.now)) c.args.clauses.now old front last c.take_last.ensures.atoms steps c.requires.sound
+    IsSound-front (theory.lawful (theory.problem c.args.theory.now)) c.args.clauses.now old front last c.take_last.ensures.atoms steps
+    c.requires.sound
 
 pub returns-clause-covers : goal.returns-clause-covers
 returns-clause-covers g c =
@@ -99,7 +109,8 @@ returns-clause-sound g c =
     let front = c.take_last.new.self in
     let last = c.unwrap-step.result in
     let steps : old.steps ≡ front.steps ++ last ∷ [] = search rules in
-    IsSound-front (theory.lawful (theory.problem c.args.theory.now)) c.args.clauses.now old front last c.take_last.ensures.atoms steps c.requires.sound
+    IsSound-front (theory.lawful (theory.problem c.args.theory.now)) c.args.clauses.now old front last c.take_last.ensures.atoms steps
+    c.requires.sound
 
 pub returns-clause-conflict : goal.returns-clause-conflict
 returns-clause-conflict g c =
@@ -110,4 +121,5 @@ returns-clause-conflict g c =
     let steps : old.steps ≡ front.steps ++ last ∷ [] = search rules in
     let implied : is_chosen last.reason ≡ false = search rules in
     let within : last.lit.atom < front.atoms = search rules in
-    rw c.in_ok-resolved.ensures (IsConflict-before (theory.lawful (theory.problem c.args.theory.now)) c.args.clauses.now old front last c.take_last.ensures.atoms steps c.args.conflict c.requires.sound implied within c.requires.conflict)
+    rw c.in_ok-resolved.ensures (IsConflict-before (theory.lawful (theory.problem c.args.theory.now)) c.args.clauses.now old front last
+    c.take_last.ensures.atoms steps c.args.conflict c.requires.sound implied within c.requires.conflict)

@@ -17,5 +17,6 @@ loop-clause-preserved g c =
       stands = c.fill_clause.ensures.stands;
       sound = c.fill_clause.ensures.sound;
       extends = Extends-trans c.args.trail.now old new c.loop-clause.invariant.extends c.fill_clause.ensures.extends;
-      decided = all_decided_turn old new c.args.clauses.now c.loop-clause.clause-index clause c.fill_clause.ensures.extends c.is_fresh.ensures c.loop-clause-test.true c.clause-item.is c.loop-clause.invariant.decided here;
+      decided = all_decided_turn old new c.args.clauses.now c.loop-clause.clause-index clause c.fill_clause.ensures.extends
+          c.is_fresh.ensures c.loop-clause-test.true c.clause-item.is c.loop-clause.invariant.decided here;
     }

@@ -19,5 +19,7 @@ loop-lit-preserved g c =
       stands = c.fill_atom.ensures.stands;
       sound = c.fill_atom.ensures.sound;
       extends = Extends-trans c.args.trail.now old new c.loop-lit.invariant.extends c.fill_atom.ensures.extends;
-      decided = decided_turn old new clause c.loop-lit.lit-index lit c.fill_atom.ensures.extends c.is_fresh.ensures c.loop-lit-test.true (get_or_default clause c.loop-lit.lit-index (record { atom = 0; yes = false }) lit c.loop-lit-test.true) c.loop-lit.invariant.decided here;
+      decided = decided_turn old new clause c.loop-lit.lit-index lit c.fill_atom.ensures.extends c.is_fresh.ensures c.loop-lit-test.true
+          (get_or_default clause c.loop-lit.lit-index (record { atom = 0; yes = false }) lit c.loop-lit-test.true)
+          c.loop-lit.invariant.decided here;
     }

@@ -10,4 +10,8 @@ returns-in-None-clause-full g c =
     let clauses = c.args.clauses.now in
     let new = c.fill.new.trail in
     let decided : list_all (decided_on (truths_of new)) clauses ≡ true = search rules in
-    record { holds = all_true-extends c.args.trail.now new clauses c.fill.ensures.extends c.is_fresh.ensures c.requires.holds; decided = decided }
+    record {
+      holds = all_true-extends c.args.trail.now new clauses c.fill.ensures.extends c.is_fresh.ensures c.requires.holds;
+      decided =
+          decided;
+    }

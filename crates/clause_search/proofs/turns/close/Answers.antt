@@ -12,13 +12,17 @@ steps-preserved-after-is_chosen g c =
     let last = c.in-Some.step in
     elim c.if-is_chosen.branch [
       | then-is_chosen w ↦ record {
-          same = ap theory.problem w.theory-is ∙ (w.pop.ensures.problem ∙ c.steps.invariant.same);
-          frames = ap theory.frames w.theory-is ∙ frames-popped frames (theory.frames w.pop.new.self) old front last c.steps.invariant.frames c.in-Some.ensures.last (sym c.is_chosen.ensures ∙ w.if-is_chosen.true) w.pop.ensures.frames;
-        }
+        same = ap theory.problem w.theory-is ∙ (w.pop.ensures.problem ∙ c.steps.invariant.same);
+        frames = ap theory.frames w.theory-is
+            ∙ frames-popped frames (theory.frames w.pop.new.self) old front last c.steps.invariant.frames c.in-Some.ensures.last
+            (sym c.is_chosen.ensures ∙ w.if-is_chosen.true) w.pop.ensures.frames;
+      }
       | else-is_chosen w ↦ record {
-          same = ap theory.problem w.theory-is ∙ c.steps.invariant.same;
-          frames = ap theory.frames w.theory-is ∙ frames-kept frames old front last c.steps.invariant.frames c.in-Some.ensures.last (sym c.is_chosen.ensures ∙ w.if-is_chosen.false);
-        }
+        same = ap theory.problem w.theory-is ∙ c.steps.invariant.same;
+        frames = ap theory.frames w.theory-is
+            ∙ frames-kept frames old front last c.steps.invariant.frames c.in-Some.ensures.last
+            (sym c.is_chosen.ensures ∙ w.if-is_chosen.false);
+      }
     ]
 
 pub steps-preserved : goal.steps-preserved
@@ -30,11 +34,15 @@ steps-preserved g c =
     let last = c.in-Some.step in
     elim c.if-is_chosen.branch [
       | then-is_chosen w ↦ record {
-          same = ap theory.problem w.theory-is ∙ (w.pop.ensures.problem ∙ c.steps.invariant.same);
-          frames = ap theory.frames w.theory-is ∙ frames-popped frames (theory.frames w.pop.new.self) old front last c.steps.invariant.frames c.in-Some.ensures.last (sym c.is_chosen.ensures ∙ w.if-is_chosen.true) w.pop.ensures.frames;
-        }
+        same = ap theory.problem w.theory-is ∙ (w.pop.ensures.problem ∙ c.steps.invariant.same);
+        frames = ap theory.frames w.theory-is
+            ∙ frames-popped frames (theory.frames w.pop.new.self) old front last c.steps.invariant.frames c.in-Some.ensures.last
+            (sym c.is_chosen.ensures ∙ w.if-is_chosen.true) w.pop.ensures.frames;
+      }
       | else-is_chosen w ↦ record {
-          same = ap theory.problem w.theory-is ∙ c.steps.invariant.same;
-          frames = ap theory.frames w.theory-is ∙ frames-kept frames old front last c.steps.invariant.frames c.in-Some.ensures.last (sym c.is_chosen.ensures ∙ w.if-is_chosen.false);
-        }
+        same = ap theory.problem w.theory-is ∙ c.steps.invariant.same;
+        frames = ap theory.frames w.theory-is
+            ∙ frames-kept frames old front last c.steps.invariant.frames c.in-Some.ensures.last
+            (sym c.is_chosen.ensures ∙ w.if-is_chosen.false);
+      }
     ]

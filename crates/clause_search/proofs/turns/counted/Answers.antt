@@ -18,12 +18,13 @@ loop-lit-preserved c =
       above = omega arith;
       below = within_more clause count next at lit c.loop-lit-test.true is more here c.loop-lit.invariant.below;
       least = λ limit from each.
-        let before = c.loop-lit.invariant.least limit from each in
-        let within = lit_within clause limit at lit c.loop-lit-test.true is each in
-        omega (arith, c.in_ok-checked_add.ensures, before, within);
+          let before = c.loop-lit.invariant.least limit from each in
+          let within = lit_within clause limit at lit c.loop-lit-test.true is each in
+          omega (arith, c.in_ok-checked_add.ensures, before, within);
     }
 
 pub returns-clause-below : goal.returns-clause-below
 returns-clause-below c =
     let clause = c.args.clause.now in
-    subst (λ (lits : List Lit). All (λ (l : Lit). l.atom < c.loop-lit.count) lits) (take_all c.loop-lit.lit-index clause c.loop-lit-test.false) c.loop-lit.invariant.below
+    subst (λ (lits : List Lit). All (λ (l : Lit). l.atom < c.loop-lit.count) lits)
+    (take_all c.loop-lit.lit-index clause c.loop-lit-test.false) c.loop-lit.invariant.below

@@ -1,4 +1,4 @@
-use Rattle.std.proofs.Common.{◌<◌, length, vec_len, arith}
+use Rattle.std.proofs.Common.{vec_len, arith}
 use Rattle.clause_search.specs.declared.step.Step.{Step}
 use Rattle.clause_search.proofs.FreshSteps.{step_fits}
 use Rattle.clause_search.proofs.TrailSteps.{added_fresh, added_truths}
@@ -19,7 +19,8 @@ invariant_of-self c =
     let step : Step = record { lit = c.args.lit; reason = c.args.reason } in
     let items = rw c.unwrap.ensures at c.push.ensures.items in
     let within = rw (← c.self.view_is) at c.requires.within in
-    let free = rw (← c.self.view_is) at c.requires.free in
-    (rw items (added_truths (vec_len truths) truths.items steps step c.self.invariant.0),
-     rw items (added_fresh (vec_len truths) steps step c.self.invariant.1 within free),
-     omega (arith, c.self.invariant.2, c.push.ensures.capacity))
+    let free = rw (← c.self.view_is) at c.requires.free in (
+      rw items (added_truths (vec_len truths) truths.items steps step c.self.invariant.0),
+      rw items (added_fresh (vec_len truths) steps step c.self.invariant.1 within free),
+      omega (arith, c.self.invariant.2, c.push.ensures.capacity),
+    )

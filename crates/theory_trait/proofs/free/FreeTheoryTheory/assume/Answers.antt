@@ -17,7 +17,8 @@ invariant_of-self c =
     let len = rw c.unwrap.ensures at c.push.ensures.len in
     let free = rw (← c.self.view_is) at c.requires.free in
     let spare = rw (← c.self.view_is) at c.requires.spare in
-    let rise = RiseFrom-higher 0 c.self.inside.frames.items (length content.items) (length content.items + 1) c.self.invariant.0.rise (omega arith) in
-    (record { differ = rw items (AtomsDiffer-push content.items c.args.lit c.self.invariant.0.differ free); rise = rw (items, length_push content.items c.args.lit) rise },
-     omega (arith, len, spare, c.push.ensures.capacity, c.self.invariant.1),
-     c.self.invariant.2)
+    let rise = RiseFrom-higher 0 c.self.inside.frames.items (length content.items) (length content.items + 1) c.self.invariant.0.rise (omega arith) in (
+      record { differ = rw items (AtomsDiffer-push content.items c.args.lit c.self.invariant.0.differ free); rise = rw (items, length_push content.items c.args.lit) rise },
+      omega (arith, len, spare, c.push.ensures.capacity, c.self.invariant.1),
+      c.self.invariant.2,
+    )
