@@ -9,9 +9,7 @@ use Rattle.mbqi_terms.specs.declared.script.Function.{Function}
 use Rattle.mbqi_terms.specs.declared.script.Script.{Script}
 use Rattle.mbqi_terms.specs.declared.sort.Sort.{Sort}
 use Rattle.mbqi_terms.specs.declared.sort.Sort.TheVariants as sort
-use Rattle.mbqi_terms.specs.declared.term.Symbol.TheVariants as symbol
 use Rattle.mbqi_terms.specs.declared.term.Term.{Term}
-use Rattle.mbqi_terms.specs.declared.term.Term.TheVariants as term
 use Rattle.function_model.specs.Fits.{IsShown, AreRows, RowsRiseFrom, Fits, FitsSignature, Signature, function_signature, function_signatures, skolem_signature}
 use Rattle.function_model.specs.Lookup.{is_at, value_at, looked_up_in, looked_up, is_declared}
 use Rattle.function_model.specs.ValueOf.{Point, value_of}
