@@ -66,16 +66,23 @@ fn iff(alloc: Global, f: Formula, g: Formula) -> Result<Formula, AllocError>
     Ok(Formula::Iff(f, Boxed::new(alloc, g)?))
 }
 
+// A choice by the first constant. Its branches come boxed, so that each function owns few trees where memory may run out.
 #[tactic(auto, unfolding(mbqi_terms::specs::Binders::has_quantifier))]
-fn choose(alloc: Global, c: Formula, f: Formula, g: Formula) -> Result<Formula, AllocError>
-    requires condition { IsQuantifierFree c }
+fn choice(alloc: Global, f: Boxed<Formula>, g: Boxed<Formula>) -> Result<Formula, AllocError>
     requires first { IsQuantifierFree f }
     requires second { IsQuantifierFree g }
     ensures { IfOk result IsQuantifierFree }
 {
-    let c = Boxed::new(alloc, c)?;
-    let f = Boxed::new(alloc, f)?;
-    Ok(Formula::Choose(c, f, Boxed::new(alloc, g)?))
+    let condition = Boxed::new(alloc, constant(alloc, 0))?;
+    Ok(Formula::Choose(condition, f, g))
+}
+
+fn choice_of_constants(alloc: Global) -> Result<Formula, AllocError>
+    ensures { IfOk result IsQuantifierFree }
+{
+    let first = Boxed::new(alloc, constant(alloc, 1))?;
+    let second = Boxed::new(alloc, constant(alloc, 2))?;
+    choice(alloc, first, second)
 }
 
 fn yes(atom: usize) -> Lit {
@@ -136,12 +143,7 @@ fn an_equation_of_formulas(rt: HostRuntime) -> Result<(), Fail> {
 #[test]
 fn a_choice_between_formulas(rt: HostRuntime) -> Result<(), Fail> {
     let alloc = rt.alloc();
-    let formula = choose(
-        alloc,
-        constant(alloc, 0),
-        constant(alloc, 1),
-        constant(alloc, 2),
-    )?;
+    let formula = choice_of_constants(alloc)?;
     let mut table = AtomTable::new(alloc);
     let clauses = clauses_of(alloc, &mut table, &formula)?;
     let expected: [&[Lit]; 5] = [
