@@ -100,12 +100,23 @@ fn assert_clauses<R: Abort>(rt: &R, clauses: &[Lits], expected: &[&[Lit]]) {
     }
 }
 
+fn negated_conjunction(alloc: Global) -> Result<Formula, AllocError>
+    ensures { IfOk result IsQuantifierFree }
+{
+    not(alloc, all(alloc, constant(alloc, 1), constant(alloc, 2))?)
+}
+
+fn disjunction(alloc: Global) -> Result<Formula, AllocError>
+    ensures { IfOk result IsQuantifierFree }
+{
+    any(alloc, constant(alloc, 0), negated_conjunction(alloc)?)
+}
+
 // Atom 0 is the formula, 1 is p, 2 the conjunction, 3 and 4 are q and r.
 #[test]
 fn a_disjunction_and_a_negated_conjunction(rt: HostRuntime) -> Result<(), Fail> {
     let alloc = rt.alloc();
-    let conjunction = all(alloc, constant(alloc, 1), constant(alloc, 2))?;
-    let formula = any(alloc, constant(alloc, 0), not(alloc, conjunction)?)?;
+    let formula = disjunction(alloc)?;
     let mut table = AtomTable::new(alloc);
     let clauses = clauses_of(alloc, &mut table, &formula)?;
     let expected: [&[Lit]; 7] = [
