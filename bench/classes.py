@@ -7,17 +7,14 @@ It makes a repository of its own in a temporary folder, with copies of the crate
 runs. A line tells a way of joining, a count, and the milliseconds that joining, ten paths and taking back took: they double along with the count where the time
 is linear. The folder is deleted at the end. It is no part of the gate.
 """
-import os
-import shutil
-import subprocess
 import sys
-import tempfile
 
-TOP = os.path.dirname(os.path.dirname(os.path.abspath(__file__)))
+import proved_program
+
 COUNTS = [25_000, 50_000, 100_000]
 CRATES = ["index_lists", "class_forest"]
 
-PROGRAM_LINE = "classes_bench: class_forest\n"
+PROGRAM_LINE = "classes_bench: class_forest"
 
 PROGRAM = """//! Joins classes and takes them apart, and tells the time.
 #![tactic(auto)]
@@ -165,33 +162,12 @@ invariant-LOOP l = l.forest.nodes ≡ l.count
 """
 
 
-def make_repository(top, counts):
-    """Writes the repository into the folder."""
-    for name in CRATES:
-        shutil.copytree(os.path.join(TOP, "crates", name), os.path.join(top, "crates", name), ignore=shutil.ignore_patterns("out"))
-    program = os.path.join(top, "crates", "classes_bench")
-    os.makedirs(os.path.join(program, "src"))
-    with open(os.path.join(program, "src", "main.rt"), "w", encoding="utf-8") as file:
-        file.write(PROGRAM.replace("COUNTS", ", ".join(f"{count}usize" for count in counts)))
-    for function, loop in LOOPS.items():
-        os.makedirs(os.path.join(program, "proofs", function))
-        with open(os.path.join(program, "proofs", function, "Invariants.antt"), "w", encoding="utf-8") as file:
-            file.write(INVARIANT.replace("FUNCTION", function).replace("LOOP", loop))
-    with open(os.path.join(TOP, "crates.txt"), encoding="utf-8") as file:
-        lines = [line for line in file if line.split(":")[0] in CRATES]
-    with open(os.path.join(top, "crates.txt"), "w", encoding="utf-8") as file:
-        file.writelines(lines + [PROGRAM_LINE])
-    shutil.copy(os.path.join(TOP, "HANDLES"), top)
-    return program
-
-
 def main():
     counts = [int(word) for word in sys.argv[1:]] or COUNTS
-    with tempfile.TemporaryDirectory() as top:
-        program = make_repository(top, counts)
-        print(f"{'way':>8} {'count':>10} {'joined':>8} {'marks':>8} {'paths':>8} {'back':>8}", flush=True)
-        done = subprocess.run(["rt", "run"], cwd=program, check=False)
-    sys.exit(done.returncode)
+    print(f"{'way':>8} {'count':>10} {'joined':>8} {'marks':>8} {'paths':>8} {'back':>8}", flush=True)
+    source = PROGRAM.replace("COUNTS", ", ".join(f"{count}usize" for count in counts))
+    proofs = {f"{function}/Invariants.antt": INVARIANT.replace("FUNCTION", function).replace("LOOP", loop) for function, loop in LOOPS.items()}
+    sys.exit(proved_program.run(PROGRAM_LINE, CRATES, source, proofs))
 
 
 main()

@@ -3,14 +3,15 @@
 
     bench/ground.py [COMMAND..]
 
-COMMAND is run with the file's name behind it, and `./mbqi solve` where none is given. A line tells the seconds of one run at
-each size. Declarations are looked up one by one and each decision looks over all clauses, so the time of a chain grows with the
-square of its length at least; pigeons take exponential time. The last shapes have quantifiers: steps follow one another by a rule, and a
-relation is closed under two rules, one of them over three variables. Each round tries all tuples. The scripts are made in a folder of their own, which is deleted
-at the end. It is no part of the gate.
+COMMAND is run with the file's name behind it and a stack of 8 MiB, and `./mbqi solve` where none is given. A line tells the seconds of one run
+at each size. A chain's links follow one another in the order of the clauses, or backwards, where each pass over the clauses adds one truth, so that the
+time grows with the square of its length; pigeons take exponential time. The last shapes have quantifiers: steps follow one another by a rule, and a
+relation is closed under two rules, one of them over three variables. Each round tries all tuples. The scripts are made in a folder of their own, which is
+deleted at the end. It is no part of the gate.
 """
 import itertools
 import os
+import resource
 import shutil
 import subprocess
 import sys
@@ -18,6 +19,7 @@ import tempfile
 import time
 
 SECONDS = 60
+STACK = 8 * 2**20
 
 
 def script(constants, predicates, assertions):
@@ -38,6 +40,12 @@ def chain(count):
     names = [f"c{i}" for i in range(count)]
     links = [f"(or (not (p {a})) (p {b}))" for a, b in itertools.pairwise(names)]
     return script(names, ["p"], ["(p c0)"] + links)
+
+
+def backward_chain(count):
+    names = [f"c{i}" for i in range(count)]
+    links = [f"(or (not (p {a})) (p {b}))" for a, b in itertools.pairwise(names)]
+    return script(names, ["p"], links[::-1] + ["(p c0)"])
 
 
 def broken_chain(count):
@@ -71,20 +79,25 @@ def closed(count):
 
 
 SHAPES = [
-    ("units", units, [100, 200, 400, 800]),
-    ("chain", chain, [100, 200, 400, 800]),
-    ("broken chain", broken_chain, [100, 200, 400, 800]),
-    ("pigeons", pigeons, [3, 4, 5, 6]),
+    ("units", units, [1_000, 4_000, 16_000, 64_000]),
+    ("chain", chain, [1_000, 4_000, 16_000]),
+    ("backward chain", backward_chain, [1_000, 2_000, 4_000]),
+    ("broken chain", broken_chain, [1_000, 4_000, 16_000]),
+    ("pigeons", pigeons, [6, 7, 8, 9]),
     ("steps", steps, [10, 20, 40]),
     ("closed relation", closed, [4, 8, 16]),
 ]
+
+
+def limit_stack():
+    resource.setrlimit(resource.RLIMIT_STACK, (STACK, STACK))
 
 
 def seconds_of(command):
     """The time of one run, or none where it takes too long or ends otherwise than with an answer."""
     start = time.perf_counter()
     try:
-        done = subprocess.run(command, stdout=subprocess.DEVNULL, stderr=subprocess.PIPE, check=False, timeout=SECONDS)
+        done = subprocess.run(command, stdout=subprocess.DEVNULL, stderr=subprocess.PIPE, check=False, timeout=SECONDS, preexec_fn=limit_stack)
     except subprocess.TimeoutExpired:
         return None
     return time.perf_counter() - start if done.returncode in (0, 10, 20) else None

@@ -8,19 +8,16 @@ small program over them, and runs the program by `rt try`, which needs no proof.
 program, so the figures show how the time grows and not how long it is. A line tells the milliseconds at a count: they
 double along with it where the time is linear. The folder is deleted at the end. It is no part of the gate.
 """
-import os
-import shutil
-import subprocess
 import sys
-import tempfile
 
-TOP = os.path.dirname(os.path.dirname(os.path.abspath(__file__)))
+import proved_program
+
 COUNTS = [125_000, 250_000, 500_000, 1_000_000]
 CRATES = ["mbqi_values", "mbqi_terms"]
 SECONDS = 600
 STEPS = 10**12
 
-PROGRAM_LINE = "store_bench: mbqi_values mbqi_terms sqlite_items\n"
+PROGRAM_LINE = "store_bench: mbqi_values mbqi_terms sqlite_items"
 
 PROGRAM = """//! Interns numerals and tells the time.
 #![tactic(auto)]
@@ -71,30 +68,12 @@ fn main(rt: HostRuntime) -> Result<(), io::Error> {
 """
 
 
-def make_repository(top, counts):
-    """Writes the repository into the folder."""
-    for name in CRATES:
-        shutil.copytree(os.path.join(TOP, "crates", name), os.path.join(top, "crates", name), ignore=shutil.ignore_patterns("out"))
-    program = os.path.join(top, "crates", "store_bench")
-    os.makedirs(os.path.join(program, "src"))
-    with open(os.path.join(program, "src", "main.rt"), "w", encoding="utf-8") as file:
-        file.write(PROGRAM.replace("COUNTS", ", ".join(str(count) for count in counts)))
-    with open(os.path.join(TOP, "crates.txt"), encoding="utf-8") as file:
-        lines = [line for line in file if line.split(":")[0] in CRATES]
-    with open(os.path.join(top, "crates.txt"), "w", encoding="utf-8") as file:
-        file.writelines(lines + [PROGRAM_LINE])
-    shutil.copy(os.path.join(TOP, "HANDLES"), top)
-    return program
-
-
 def main():
     counts = [int(word) for word in sys.argv[1:]] or COUNTS
-    with tempfile.TemporaryDirectory() as top:
-        program = make_repository(top, counts)
-        print(f"{'count':>10} {'interned':>8} {'found':>8} {'released':>8}", flush=True)
-        command = ["rt", "try", "--seconds", str(SECONDS), "--steps", str(STEPS)]
-        done = subprocess.run(command, cwd=program, check=False)
-    sys.exit(done.returncode)
+    print(f"{'count':>10} {'interned':>8} {'found':>8} {'released':>8}", flush=True)
+    source = PROGRAM.replace("COUNTS", ", ".join(str(count) for count in counts))
+    command = ("rt", "try", "--seconds", str(SECONDS), "--steps", str(STEPS))
+    sys.exit(proved_program.run(PROGRAM_LINE, CRATES, source, command=command))
 
 
 main()

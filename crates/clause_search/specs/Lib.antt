@@ -1,4 +1,12 @@
-pub mod Clauses
+pub mod Advanced
+pub mod AtMostOne
+pub mod ClauseTruth
+pub mod Course
+pub mod Following
+pub mod Found
+pub mod Rank
 pub mod Resolvent
 pub mod Searched
-pub mod Trail
+pub mod Standing
+pub mod Truths
+pub mod Turn

@@ -1,18 +1,22 @@
-//! The plain search on propositional clauses: truths of the atoms that make each clause true, or that none do.
+//! The search on clauses, over any theory.
 //!
-//! Start with [`search_clauses`] and its answer [`Searched`]. The search walks a tree of decisions
-//! (`backtracking`): it takes a clause that isn't true yet (`choice`) and makes one of its free literals true, and
-//! where that fails, false. A branch that fails gives a conflict, a clause that follows from the clauses and is
-//! false on the trail; the conflicts of both branches give their resolvent (`resolvent`). A conflict without the
-//! decided atom goes up at once.
+//! Start with [`search`] and its answer [`Searched`]. The search keeps a trail of literals with their reasons (`trail`,
+//! `step`): a literal was chosen, or a clause implies it (`adding`). Where there is no conflict, it goes over the clauses
+//! (`passes`, `clause_truth`); a conflict is resolved with the reasons from the trail's end, and the last choice that it
+//! has is turned (`going_back`, `resolvent`). `turns` has the turns of the search, and why they end.
 
 #![tactic(auto)]
 
-mod backtracking;
-mod choice;
+mod adding;
+mod clause_truth;
+mod going_back;
+mod passes;
 mod resolvent;
+mod step;
+mod trail;
+mod turns;
 
-pub use backtracking::{Searched, search_clauses};
+pub use turns::{Searched, search};
 
 #[cfg(test)]
 mod tests;

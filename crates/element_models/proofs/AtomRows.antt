@@ -13,7 +13,7 @@ use Rattle.mbqi_terms.specs.declared.term_id.TermId.{TermId}
 use Rattle.function_model.specs.Lookup.{is_at, value_at}
 use Rattle.function_model.specs.Rising.{AgreeAtSamePlaces}
 use Rattle.function_model.specs.declared.model.Row.{Row}
-use Rattle.ground_form.specs.declared.atoms.GroundAtom.{GroundAtom}
+use Rattle.element_atoms.specs.declared.atoms.GroundAtom.{GroundAtom}
 use Rattle.element_models.specs.Rows.{element_of, row_of, rows_of}
 
 in_row : (P : Row → Type 0) (b : Bool) (row : Row) (rows : List Row) → (b ≡ true → P row) → AllByRecursion P rows

@@ -13,7 +13,7 @@ use Rattle.function_model.specs.Lookup.{is_at, value_at, looked_up_in}
 use Rattle.function_model.specs.Rising.{AgreeAtSamePlaces}
 use Rattle.function_model.specs.declared.model.Row.{Row}
 use Rattle.function_model.specs.declared.model.Table.{Table}
-use Rattle.ground_form.specs.Profile.{is_constant}
+use Rattle.element_atoms.specs.Profile.{is_constant}
 use Rattle.element_models.specs.Elements.{knots_of, last_value, shown_rows, default_of, constant_table, predicate_table, next_element, tables_from, hidden_from}
 use Rattle.element_models.specs.Filling.{IsRaised}
 

@@ -2,7 +2,7 @@
 use Rattle.std.proofs.Common.{◌≡◌, ℕ, ◌+◌, Bool, true, false, List, [], ◌∷◌, ◌++◌, length, length-append, refl, cond, arith}
 use Rattle.mbqi_terms.specs.declared.script.Function.{Function}
 use Rattle.mbqi_terms.specs.declared.term.Term.{Term}
-use Rattle.ground_form.specs.Profile.{is_constant, constant, constants_from, constants_of, seed}
+use Rattle.element_atoms.specs.Profile.{is_constant, constant, constants_from, constants_of, seed}
 
 -- The terms of the pool.
 abbrev pub terms_of : List Function → List Term

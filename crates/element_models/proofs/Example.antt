@@ -2,7 +2,7 @@
 use Rattle.std.proofs.Common.{ℕ, ◌<◌, refl, arith}
 use Rattle.std.specs.Prelude.{All}
 use Rattle.std.proofs.lemmas.List.Elements.{All-from_recursion}
-use Rattle.ground_form.specs.Atoms.{IsOver}
+use Rattle.element_atoms.specs.Atoms.{IsOver}
 use Rattle.element_models.specs.Example.{one_predicate, atom_on, example_functions, example_pool, example_atoms}
 
 atom_over : (left right : ℕ) → left < 3 → right < 3 → IsOver example_functions example_pool.terms (atom_on left right)

@@ -15,8 +15,8 @@ use Rattle.function_model.specs.Rising.{AgreeAtSamePlaces}
 use Rattle.function_model.specs.declared.model.Row.{Row}
 use Rattle.function_model.specs.declared.model.Table.{Table}
 use Rattle.function_model.specs.declared.model.TableName.TheVariants.{Declared}
-use Rattle.ground_form.specs.Profile.{is_constant}
-use Rattle.ground_form.specs.declared.atoms.GroundAtom.{GroundAtom}
+use Rattle.element_atoms.specs.Profile.{is_constant}
+use Rattle.element_atoms.specs.declared.atoms.GroundAtom.{GroundAtom}
 use Rattle.element_models.specs.Elements.{knots_of, bare_table, last_value, shown_rows, constant_table, predicate_table, table_for, tables_from, next_element, no_rows}
 use Rattle.element_models.specs.Filling.{NamesPredicate, put_in, with_row, with_rows}
 use Rattle.element_models.specs.Rows.{row_of, rows_of}

@@ -14,9 +14,9 @@ use Rattle.function_model.specs.Fits.{AreRows, IsRow, HaveKnots, IsShown, FitsFu
 use Rattle.function_model.specs.Rising.{RowsRise}
 use Rattle.function_model.specs.declared.model.Row.{Row}
 use Rattle.function_model.specs.declared.model.Table.{Table}
-use Rattle.ground_form.specs.Atoms.{IsOver}
-use Rattle.ground_form.specs.Profile.{the_sort, IsConstant, IsPredicate, IsElementary, is_constant}
-use Rattle.ground_form.specs.declared.atoms.GroundAtom.{GroundAtom}
+use Rattle.element_atoms.specs.Atoms.{IsOver}
+use Rattle.element_atoms.specs.Profile.{the_sort, IsConstant, IsPredicate, IsElementary, is_constant}
+use Rattle.element_atoms.specs.declared.atoms.GroundAtom.{GroundAtom}
 use Rattle.element_models.specs.Elements.{knots_of, constant_table, predicate_table, table_for, next_element, tables_from, hidden_from}
 use Rattle.element_models.specs.Filling.{AreTables, IsRaised}
 use Rattle.element_models.specs.Rows.{rows_of}

@@ -12,7 +12,7 @@ use Rattle.function_model.specs.Lookup.{is_declared, is_seed}
 use Rattle.function_model.specs.declared.model.Row.{Row}
 use Rattle.function_model.specs.declared.model.Table.{Table}
 use Rattle.function_model.specs.declared.model.TableName.TheVariants.{Seed}
-use Rattle.ground_form.specs.Profile.{is_constant}
+use Rattle.element_atoms.specs.Profile.{is_constant}
 use Rattle.element_models.specs.Elements.{bare_table, constant_table, predicate_table, next_element, tables_from, hidden_from}
 use Rattle.element_models.specs.Filling.{IsRaised}
 

@@ -11,7 +11,7 @@ use Rattle.mbqi_terms.specs.declared.sort.Sort.{Sort}
 use Rattle.mbqi_terms.specs.declared.term_id.TermId.{TermId}
 use Rattle.function_model.specs.Fits.{RiseFrom, AreKnots, HaveKnots, StandOn}
 use Rattle.function_model.specs.Lookup.{projected, is_at}
-use Rattle.ground_form.specs.Profile.{the_sort}
+use Rattle.element_atoms.specs.Profile.{the_sort}
 use Rattle.element_models.specs.Elements.{elements_from, knots_of}
 use Rattle.element_models.specs.Rows.{element_of}
 use Rattle.mbqi_values.specs.Value.{is_same}

@@ -11,7 +11,7 @@ use Rattle.mbqi_terms.specs.declared.term.Term.{Term}
 use Rattle.function_model.specs.Lookup.{value_at, looked_up, looked_up_in, is_declared}
 use Rattle.function_model.specs.declared.model.Row.{Row}
 use Rattle.function_model.specs.declared.model.Table.{Table}
-use Rattle.ground_form.specs.Profile.{is_constant, constant, constants_from}
+use Rattle.element_atoms.specs.Profile.{is_constant, constant, constants_from}
 use Rattle.element_models.specs.Elements.{constant_table, predicate_table, next_element, table_for, tables_from}
 use Rattle.element_models.specs.Filling.{IsRaised}
 

@@ -27,7 +27,7 @@ use Rattle.mbqi_terms.specs.declared.term.Term.{Term}
 use Rattle.mbqi_terms.specs.declared.term.Term.TheVariants as term
 use Rattle.mbqi_terms.specs.Binders.{binder_sorts, skolem_layer, skolems_at}
 use Rattle.mbqi_terms.specs.ScriptLists.{WithArrays, all_joined, array_arrays, arrays_in, arrays_in_term, arrays_of, each_once, formula_arrays, joined, lists_of, no_arrays, skolems_from, skolems_of, symbol_arrays, term_arrays}
-use Rattle.ground_form.specs.Profile.{IsArgument, IsAtom, IsClause, IsElementary, IsLiteral, IsRule, variables_from}
+use Rattle.element_atoms.specs.Profile.{IsArgument, IsAtom, IsClause, IsElementary, IsLiteral, IsRule, variables_from}
 
 -- no Skolem symbol comes from a clause, wherever it stands
 module _ (assertion : ℕ) (outer : List Sort) where

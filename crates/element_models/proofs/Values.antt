@@ -24,9 +24,9 @@ use Rattle.function_model.specs.ValueOf.{value_of}
 use Rattle.function_model.specs.declared.model.FunctionModel.{FunctionModel}
 use Rattle.function_model.specs.declared.model.Table.{Table}
 use Rattle.function_model.proofs.Values.{value_apply, value_seed}
-use Rattle.ground_form.specs.Atoms.{Decides, IsOver, atom_tree, atom_at}
-use Rattle.ground_form.specs.Profile.{IsPredicate, is_constant, is_element, constants_of, seed}
-use Rattle.ground_form.specs.declared.atoms.GroundAtom.{GroundAtom}
+use Rattle.element_atoms.specs.Atoms.{Decides, IsOver, atom_tree, atom_at}
+use Rattle.element_atoms.specs.Profile.{IsPredicate, is_constant, is_element, constants_of, seed}
+use Rattle.element_atoms.specs.declared.atoms.GroundAtom.{GroundAtom}
 use Rattle.element_models.specs.Elements.{knots_of, predicate_table, tables_from, hidden_from}
 use Rattle.element_models.specs.Filling.{AreTables}
 use Rattle.element_models.specs.Rows.{element_of, rows_of}

@@ -9,7 +9,7 @@ use Rattle.function_model.specs.declared.model.Row.{Row}
 use Rattle.function_model.specs.declared.model.Table.{Table}
 use Rattle.function_model.specs.declared.model.TableName.{TableName}
 use Rattle.function_model.specs.declared.model.TableName.TheVariants.{Declared, Seed, Far}
-use Rattle.ground_form.specs.Profile.{is_constant}
+use Rattle.element_atoms.specs.Profile.{is_constant}
 
 -- So many elements in order, from one on.
 abbrev pub elements_from : ℕ → ℕ → List Value

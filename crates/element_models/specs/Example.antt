@@ -2,9 +2,9 @@
 use Rattle.std.specs.Prelude.{ℕ, List, [], ◌∷◌}
 use Rattle.mbqi_terms.specs.declared.script.Function.{Function}
 use Rattle.mbqi_terms.specs.declared.sort.Sort.TheVariants as sort
-use Rattle.ground_form.specs.Profile.{constant, seed, the_sort}
-use Rattle.ground_form.specs.declared.atoms.GroundAtom.{GroundAtom}
-use Rattle.ground_form.specs.declared.pool.Pool.{Pool}
+use Rattle.element_atoms.specs.Profile.{constant, seed, the_sort}
+use Rattle.element_atoms.specs.declared.atoms.GroundAtom.{GroundAtom}
+use Rattle.element_atoms.specs.declared.pool.Pool.{Pool}
 
 abbrev pub one_constant : Function
 one_constant = record { name = []; args = []; result = the_sort }

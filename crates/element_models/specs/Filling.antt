@@ -7,8 +7,8 @@ use Rattle.function_model.specs.Lookup.{value_at}
 use Rattle.function_model.specs.Rising.{RowsRise}
 use Rattle.function_model.specs.declared.model.Row.{Row}
 use Rattle.function_model.specs.declared.model.Table.{Table}
-use Rattle.ground_form.specs.Profile.{is_constant}
-use Rattle.ground_form.specs.declared.atoms.GroundAtom.{GroundAtom}
+use Rattle.element_atoms.specs.Profile.{is_constant}
+use Rattle.element_atoms.specs.declared.atoms.GroundAtom.{GroundAtom}
 use Rattle.element_models.specs.Elements.{tables_from, hidden_from}
 use Rattle.element_models.specs.Rows.{row_of, rows_of}
 

@@ -4,7 +4,7 @@ use Rattle.mbqi_values.specs.declared.value.Value.{Value}
 use Rattle.mbqi_values.specs.declared.value.Value.TheVariants as value
 use Rattle.mbqi_terms.specs.declared.term_id.TermId.{TermId}
 use Rattle.function_model.specs.declared.model.Row.{Row}
-use Rattle.ground_form.specs.declared.atoms.GroundAtom.{GroundAtom}
+use Rattle.element_atoms.specs.declared.atoms.GroundAtom.{GroundAtom}
 
 -- The term of a number in the pool is the element of that number.
 abbrev pub element_of : TermId → Value

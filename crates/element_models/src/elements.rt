@@ -1,11 +1,11 @@
 //! The elements, and the tables of the functions over them without rows.
 
 ghost use Rattle.std.specs.Prelude.{◌≡◌, ◌++◌, length, replicate, IfOk, OnOk};
-ghost use Rattle.ground_form.specs.Profile.{is_constant};
+ghost use Rattle.element_atoms.specs.Profile.{is_constant};
 ghost use Rattle.element_models.specs.Elements.{elements_from, knots_of, bare_table, table_for, tables_from, no_rows, hidden_from};
 
+use element_atoms::Pool;
 use function_model::{Rows, Table, TableName, ValueLists};
-use ground_form::Pool;
 use mbqi_terms::{Function, Sort};
 use mbqi_values::{Sequence, Sizes, Value, Values};
 use std::alloc::{AllocError, Global};

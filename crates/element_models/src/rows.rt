@@ -6,8 +6,8 @@ ghost use Rattle.function_model.specs.Rising.{AgreeAtSamePlaces};
 ghost use Rattle.element_models.specs.Filling.{IsRaised, put_in, with_row, with_rows};
 ghost use Rattle.element_models.specs.Rows.{element_of, row_of};
 
+use element_atoms::GroundAtom;
 use function_model::{Row, Rows, Table, rising_rows};
-use ground_form::GroundAtom;
 use mbqi_terms::TermId;
 use mbqi_values::{Sequence, Value};
 use std::alloc::{AllocError, Global};

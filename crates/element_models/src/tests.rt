@@ -1,11 +1,11 @@
 //! What no clause says: that a model comes where memory is ample, and how its tables look.
 
 ghost use Rattle.std.specs.Prelude.{◌≡◌, IfOk};
-ghost use Rattle.ground_form.specs.Profile.{IsElementary};
+ghost use Rattle.element_atoms.specs.Profile.{IsElementary};
 ghost use Rattle.element_models.specs.Example.{one_constant, one_predicate, example_functions, example_pool, atom_on, example_atoms};
 
 use super::element_model;
-use ground_form::{GroundAtom, Pool};
+use element_atoms::{GroundAtom, Pool};
 use mbqi_terms::{
     Assertions, Function, Functions, Script, Sort, Sorts, Symbol, Term, TermId, TermIds, Terms,
 };

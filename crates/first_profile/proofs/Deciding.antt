@@ -12,9 +12,9 @@ use Rattle.mbqi_terms.specs.declared.sort.Binder.{Binder}
 use Rattle.mbqi_terms.specs.declared.term.Symbol.TheVariants as symbol
 use Rattle.mbqi_terms.specs.declared.term.Term.{Term}
 use Rattle.mbqi_terms.specs.declared.term.Term.TheVariants as term
-use Rattle.ground_form.specs.Profile.{the_sort, IsArgument, IsAtom, IsClause, IsConstantTerm, IsLiteral, IsRule, for_all, variables_from}
-use Rattle.ground_form.proofs.Numbers.{length_variables, same_declared}
-use Rattle.ground_form.proofs.Truths.{any_literals, out-any, out-atom, out-not}
+use Rattle.element_atoms.specs.Profile.{the_sort, IsArgument, IsAtom, IsClause, IsConstantTerm, IsLiteral, IsRule, for_all, variables_from}
+use Rattle.element_atoms.proofs.Numbers.{length_variables, same_declared}
+use Rattle.element_atoms.proofs.Truths.{any_literals, out-any, out-atom, out-not}
 use Rattle.first_profile.specs.Parts.{AreVariables, NamesPredicate}
 
 -- one more element

@@ -7,7 +7,7 @@ use Rattle.mbqi_terms.specs.declared.sort.Binder.{Binder}
 use Rattle.mbqi_terms.specs.declared.term.Symbol.TheVariants as symbol
 use Rattle.mbqi_terms.specs.declared.term.Term.{Term}
 use Rattle.mbqi_terms.specs.declared.term.Term.TheVariants as term
-use Rattle.ground_form.specs.Profile.{IsConstant, IsPredicate, variables_from}
+use Rattle.element_atoms.specs.Profile.{IsConstant, IsPredicate, variables_from}
 
 -- The number is that of a predicate that takes so many arguments.
 abbrev pub NamesPredicate : List Function → ℕ → ℕ → Type 0

@@ -4,7 +4,7 @@ ghost use Rattle.std.specs.Prelude.{◌≡◌, ◌↔◌, IsTrue, MatchOption};
 ghost use Rattle.std.specs.List.{AllByRecursion};
 ghost use Rattle.mbqi_terms.specs.declared.term.Symbol.TheVariants as symbol;
 ghost use Rattle.mbqi_terms.specs.declared.term.Term.TheVariants as term;
-ghost use Rattle.ground_form.specs.Profile.{IsArgument, IsAtom, IsClause, IsConstantTerm, IsLiteral};
+ghost use Rattle.element_atoms.specs.Profile.{IsArgument, IsAtom, IsClause, IsConstantTerm, IsLiteral};
 ghost use Rattle.first_profile.specs.Parts.{IsUndeclared};
 
 use crate::functions::{names_constant, names_predicate};

@@ -2,7 +2,7 @@
 
 ghost use Rattle.std.specs.Prelude.{◌≡◌, ◌↔◌, ◌⊎◌, IsTrue};
 ghost use Rattle.std.specs.List.{AllByRecursion};
-ghost use Rattle.ground_form.specs.Profile.{the_sort, IsConstant, IsPredicate, NamesConstant};
+ghost use Rattle.element_atoms.specs.Profile.{the_sort, IsConstant, IsPredicate, NamesConstant};
 ghost use Rattle.first_profile.specs.Parts.{NamesPredicate};
 
 use mbqi_terms::{Function, Sort};

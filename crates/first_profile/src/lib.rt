@@ -1,7 +1,7 @@
 //! The first profile as a test of scripts: one sort, its constants, predicates over it, and assertions that are clauses, with or without
 //! variables.
 //!
-//! Start with [`is_elementary`]. What the profile is stands in `specs/Profile.antt` of the crate `ground_form`. Each function here decides one
+//! Start with [`is_elementary`]. What the profile is stands in `specs/Profile.antt` of the crate `element_atoms`. Each function here decides one
 //! of its definitions, takes no memory, and looks at each part of a script once.
 
 #![tactic(auto)]

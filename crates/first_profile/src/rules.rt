@@ -2,7 +2,7 @@
 
 ghost use Rattle.std.specs.Prelude.{◌≡◌, ◌↔◌, IsTrue};
 ghost use Rattle.std.specs.List.{AllByRecursion};
-ghost use Rattle.ground_form.specs.Profile.{the_sort, IsRule};
+ghost use Rattle.element_atoms.specs.Profile.{the_sort, IsRule};
 ghost use Rattle.first_profile.specs.Parts.{AreVariables};
 
 use crate::clauses::is_clause;

@@ -1,7 +1,7 @@
 //! Scripts of the profile.
 
 ghost use Rattle.std.specs.Prelude.{◌↔◌, IsTrue};
-ghost use Rattle.ground_form.specs.Profile.{IsElementary};
+ghost use Rattle.element_atoms.specs.Profile.{IsElementary};
 ghost use Rattle.first_profile.specs.Parts.{AreDeclarations, HasOneSort};
 
 use crate::functions::are_functions;

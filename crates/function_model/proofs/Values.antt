@@ -138,13 +138,13 @@ module _ (m : FunctionModel) (p : Point) where
   pub means_skolem : (assertion place : ℕ) (vs : List Value) → (meant_symbol (symbol.Skolem assertion place)).means vs ≡ given_by (is_skolem assertion place) m vs
   means_skolem assertion place vs = search (rules, symbols.the_lemmas)
 
-  means_seed : (s : ℕ) (vs : List Value) → (meant_symbol (symbol.Seed s)).means vs ≡ given_by (is_seed s) m vs
+  pub means_seed : (s : ℕ) (vs : List Value) → (meant_symbol (symbol.Seed s)).means vs ≡ given_by (is_seed s) m vs
   means_seed s vs = search (rules, symbols.the_lemmas)
 
-  means_far : (vs : List Value) → (meant_symbol symbol.Far).means vs ≡ given_by is_far m vs
+  pub means_far : (vs : List Value) → (meant_symbol symbol.Far).means vs ≡ given_by is_far m vs
   means_far vs = search (rules, symbols.the_lemmas)
 
-  means_difference : (a b : ArrayTerm) (vs : List Value)
+  pub means_difference : (a b : ArrayTerm) (vs : List Value)
       → (meant_symbol (symbol.Diff a b)).means vs ≡ (if is_full m then given_by (is_difference a b) m vs else value.Num (pos 0))
   means_difference a b vs =
       ap (λ x. x.means vs) (meant_difference a b)

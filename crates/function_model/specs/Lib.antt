@@ -1,7 +1,13 @@
+pub mod Evaluable
 pub mod Fits
 pub mod Holds
 pub mod Lookup
+pub mod Narrowing
+pub mod Points
 pub mod Projection
 pub mod Rising
 pub mod Shown
+pub mod Sound
+pub mod Soundness
+pub mod Tabled
 pub mod ValueOf

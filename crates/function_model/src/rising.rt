@@ -35,7 +35,8 @@ fn keep_each_once(rows: &mut Vec<Row>)
     rows.dedup_by(|later, kept| rank_rows(later, kept) == Ordering::Equal);
 }
 
-fn rank_rows(left: &Row, right: &Row) -> Ordering
+/// Rows compared by their places.
+pub(crate) fn rank_rows(left: &Row, right: &Row) -> Ordering
     ensures { result ≡ rank_of_rows left.now right.now }
 {
     rank_places(left.places.as_slice(), right.places.as_slice())

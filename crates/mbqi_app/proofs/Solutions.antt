@@ -2,7 +2,7 @@
 use Rattle.std.proofs.Common.{◌≡◌, ℕ, List, sym, subst, ◌∙◌, inl, inr}
 use Rattle.mbqi_values.specs.declared.fault.Refusal.{Refusal}
 use Rattle.mbqi_terms.specs.declared.script.Script.{Script}
-use Rattle.ground_form.specs.Profile.{IsElementary}
+use Rattle.element_atoms.specs.Profile.{IsElementary}
 use Rattle.smtlib_decls.specs.Means.{Means, Refused}
 use Rattle.mbqi_app.specs.Statuses.{IsOutside, IsTakenBySolve, IsRefusedBySolve}
 

@@ -7,7 +7,7 @@ use Rattle.mbqi_values.specs.declared.status.Status.TheVariants.{Sat, Unsat, Unk
 use Rattle.mbqi_edge.specs.Files.{Files, Has, Tells}
 use Rattle.mbqi_terms.specs.declared.script.Script.{Script}
 use Rattle.mbqi_app.specs.Command.{Command, Solve, Print, asked_for, files_of}
-use Rattle.ground_form.specs.Profile.{IsElementary}
+use Rattle.element_atoms.specs.Profile.{IsElementary}
 use Rattle.smtlib_decls.specs.Means.{Means, Refused}
 
 -- The statuses with an answer.

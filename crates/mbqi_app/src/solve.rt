@@ -7,7 +7,7 @@ ghost use Rattle.mbqi_values.specs.declared.fault.Refusal.{Refusal};
 ghost use Rattle.mbqi_app.specs.Answer.{IsSolution, TookAll, TookFront, outcome_text, status_of};
 ghost use Rattle.mbqi_app.specs.Asked.{CountsReading, CountsSolving};
 ghost use Rattle.mbqi_app.specs.Statuses.{ComesFromBytes, IfScriptRefused, IsDecided, IsRefusedBySolve, IsTakenBySolve, is_answered, is_silent};
-ghost use Rattle.ground_form.specs.Profile.{IsElementary};
+ghost use Rattle.element_atoms.specs.Profile.{IsElementary};
 ghost use Rattle.smtlib_decls.specs.Means.{Means};
 
 use crate::model_text::write_model;

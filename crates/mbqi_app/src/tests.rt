@@ -2,7 +2,7 @@
 //! and that a call succeeds where memory is ample.
 
 ghost use Rattle.std.specs.Prelude.{◌≡◌, ◌<◌};
-ghost use Rattle.ground_form.specs.Profile.{IsElementary};
+ghost use Rattle.element_atoms.specs.Profile.{IsElementary};
 
 mod examples;
 mod scripts;

@@ -9,9 +9,7 @@ use Rattle.mbqi_terms.specs.declared.script.Function.{Function}
 use Rattle.mbqi_terms.specs.declared.script.Script.{Script}
 use Rattle.mbqi_terms.specs.declared.sort.Sort.{Sort}
 use Rattle.mbqi_terms.specs.declared.sort.Sort.TheVariants as sort
-use Rattle.mbqi_terms.specs.declared.term.Symbol.TheVariants as symbol
 use Rattle.mbqi_terms.specs.declared.term.Term.{Term}
-use Rattle.mbqi_terms.specs.declared.term.Term.TheVariants as term
 use Rattle.function_model.specs.Fits.{IsShown, AreRows, RowsRiseFrom, Fits, FitsSignature, Signature, function_signature, function_signatures, skolem_signature}
 use Rattle.function_model.specs.Lookup.{is_at, value_at, looked_up_in, looked_up, is_declared}
 use Rattle.function_model.specs.ValueOf.{Point, value_of}
@@ -20,7 +18,7 @@ use Rattle.function_model.specs.declared.model.Row.{Row}
 use Rattle.function_model.specs.declared.model.Table.{Table}
 use Rattle.function_model.proofs.Values.{value_apply}
 use Rattle.mbqi_terms.specs.ScriptLists.{skolems_of}
-use Rattle.ground_form.specs.Profile.{IsAtom}
+use Rattle.element_atoms.specs.Profile.{IsAtom}
 use Rattle.std.proofs.Common.{arith, cond}
 
 -- a row's value and the default have the result's sort

@@ -8,7 +8,7 @@ use Rattle.mbqi_terms.specs.declared.instance.InstanceLine.{InstanceLine}
 use Rattle.mbqi_terms.specs.declared.script.Script.{Script}
 use Rattle.function_model.specs.Shown.{shown_of}
 use Rattle.mbqi_terms.specs.Meanings.{Meanings, truth_of}
-use Rattle.ground_form.specs.Atoms.{formulas_in}
+use Rattle.element_atoms.specs.Atoms.{formulas_in}
 use Rattle.rule_form.specs.Rules.{count}
 use Rattle.rule_form.specs.declared.choice.Choice.{Choice}
 use Rattle.mbqi_loop.specs.Journal.{EndsRefuted, EndsWithModel, IsRound, Lead, added_in, first_lines, lines_after}

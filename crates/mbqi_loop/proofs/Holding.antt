@@ -1,6 +1,6 @@
 -- A clause that is true under the values of a model at a point holds there.
 use Rattle.std.proofs.Common.{◌≡◌, Bool, true, false, not, List, [], ◌∷◌, map, refl, sym, ap, subst, ◌∙◌, inl, inr, rules, ◌||◌}
-use Rattle.std.specs.Prelude.{◌⊎◌, All}
+use Rattle.std.specs.Prelude.{All}
 use Rattle.std.specs.List.{list_any}
 use Rattle.std.proofs.lemmas.List.Elements.{All-head, All-tail}
 use Rattle.mbqi_values.specs.declared.value.Value.{Value}
@@ -23,7 +23,7 @@ use Rattle.mbqi_terms.specs.Meanings.{Meanings, truth_layer, truth_of}
 use Rattle.function_model.specs.ValueOf.{Point, value_of}
 use Rattle.function_model.specs.declared.model.FunctionModel.{FunctionModel}
 use Rattle.function_model.proofs.HoldsLaws.{SomeOf, holds_any}
-use Rattle.ground_form.specs.Profile.{IsLiteral, IsClause}
+use Rattle.element_atoms.specs.Profile.{IsLiteral, IsClause}
 use Rattle.mbqi_loop.proofs.Atoms.{IsTruth, atom_value}
 use Rattle.mbqi_values.specs.Value.{is_true}
 

@@ -1,5 +1,5 @@
 -- Rounds lead from list to list, and never add a choice twice.
-use Rattle.std.proofs.Common.{◌≡◌, ℕ, ◌+◌, ◌≤◌, true, false, true≢false, List, [], ◌∷◌, ◌++◌, length, Some, slice_get, sym, ap, subst, ◌∙◌, arith, append_assoc, append-nil, length-append}
+use Rattle.std.proofs.Common.{◌≡◌, ℕ, ◌≤◌, true, false, true≢false, List, [], ◌∷◌, ◌++◌, length, Some, slice_get, sym, ap, subst, ◌∙◌, arith, append_assoc, append-nil, length-append}
 use Rattle.std.specs.Prelude.{All, Contains}
 use Rattle.std.specs.List.{list_all}
 use Rattle.std.proofs.lemmas.List.Elements.{All-append, All-cons, All-contains, All-nil, All-weaker, recursion_from_All, Contains-append_left, Contains-append_right, Contains-push}
@@ -12,7 +12,7 @@ use Rattle.mbqi_terms.specs.declared.script.Script.{Script}
 use Rattle.mbqi_terms.proofs.Places.{all_at}
 use Rattle.function_model.specs.Holds.{values_in}
 use Rattle.mbqi_terms.specs.Meanings.{Meanings, truth_of}
-use Rattle.ground_form.specs.Atoms.{formulas_in}
+use Rattle.element_atoms.specs.Atoms.{formulas_in}
 use Rattle.rule_form.specs.Rules.{IsChoice, line_of, lines_of}
 use Rattle.rule_form.specs.declared.choice.Choice.{Choice}
 use Rattle.tuple_check.proofs.TupleLists.{distinct_append}

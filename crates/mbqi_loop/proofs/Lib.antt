@@ -9,3 +9,4 @@ pub mod Journals
 pub mod Counts
 pub mod Listing
 pub mod Ends
+pub mod Assigned

@@ -12,9 +12,9 @@ use Rattle.mbqi_terms.specs.declared.script.Function.{Function}
 use Rattle.mbqi_terms.specs.declared.term.Term.{Term}
 use Rattle.mbqi_terms.specs.Meanings.{Meanings, truth_of}
 use Rattle.mbqi_values.specs.Value.{is_true}
-use Rattle.ground_form.specs.Atoms.{IsOver, atom_tree, formulas_in, truths_by}
-use Rattle.ground_form.specs.Numbering.{Extends}
-use Rattle.ground_form.specs.declared.atoms.GroundAtom.{GroundAtom}
+use Rattle.element_atoms.specs.Atoms.{IsOver, atom_tree, formulas_in, truths_by}
+use Rattle.element_atoms.specs.Numbering.{Extends}
+use Rattle.element_atoms.specs.declared.atoms.GroundAtom.{GroundAtom}
 use Rattle.mbqi_loop.specs.Listed.{IsListed}
 use Rattle.mbqi_loop.specs.declared.listed.Listed.{Listed}
 use Rattle.mbqi_loop.proofs.Agreement.{Agree, clauses_agree}

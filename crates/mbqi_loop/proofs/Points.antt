@@ -10,7 +10,7 @@ use Rattle.mbqi_terms.specs.declared.term.Term.{Term}
 use Rattle.mbqi_terms.specs.declared.term.Term.TheVariants as term
 use Rattle.function_model.specs.Holds.{ForAll, IsOf, with_value}
 use Rattle.function_model.specs.ValueOf.{Point}
-use Rattle.ground_form.specs.Profile.{the_sort, variables_from}
+use Rattle.element_atoms.specs.Profile.{the_sort, variables_from}
 use Rattle.rule_form.specs.Rules.{term_at}
 
 module _ (value : Term → Value) where

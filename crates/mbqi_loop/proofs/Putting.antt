@@ -1,6 +1,6 @@
 -- A clause at a point says in the shown part of a model what its instance says in the whole model, where the point's values are those of
 -- the terms that are put in.
-use Rattle.std.proofs.Common.{◌≡◌, ℕ, ◌<◌, not, List, [], ◌∷◌, map, refl, sym, ap, ◌∙◌, inl, inr, rules, arith}
+use Rattle.std.proofs.Common.{◌≡◌, ℕ, ◌<◌, not, List, [], ◌∷◌, map, refl, sym, ap, ◌∙◌, inl, inr, arith}
 use Rattle.std.specs.Prelude.{All}
 use Rattle.std.specs.List.{list_any}
 use Rattle.std.proofs.lemmas.List.Elements.{All-head, All-tail}
@@ -16,7 +16,7 @@ use Rattle.function_model.specs.Lookup.{is_declared, looked_up, table_where}
 use Rattle.mbqi_terms.specs.Meanings.{truth_of}
 use Rattle.function_model.specs.ValueOf.{Point, value_of}
 use Rattle.function_model.specs.declared.model.FunctionModel.{FunctionModel}
-use Rattle.ground_form.specs.Profile.{IsArgument, IsAtom, IsClause, IsLiteral}
+use Rattle.element_atoms.specs.Profile.{IsArgument, IsAtom, IsClause, IsLiteral}
 use Rattle.mbqi_values.specs.Value.{is_true}
 use Rattle.rule_form.proofs.Putting.{put_any, put_apply, put_atom, put_constant, put_not, put_variable}
 use Rattle.function_model.proofs.Values.{value_apply, value_variable}

@@ -13,15 +13,15 @@ use Rattle.mbqi_terms.specs.declared.script.Script.{Script}
 use Rattle.mbqi_terms.specs.declared.term.Term.{Term}
 use Rattle.mbqi_terms.specs.declared.term.Term.TheVariants as term
 use Rattle.mbqi_terms.specs.declared.term_id.TermId.{TermId}
-use Rattle.clause_search.specs.Clauses.{truth_at}
 use Rattle.function_model.specs.Holds.{IsOf, nowhere}
 use Rattle.mbqi_values.specs.Clauses.{all_true}
 use Rattle.function_model.specs.ValueOf.{value_of}
 use Rattle.function_model.specs.declared.model.FunctionModel.{FunctionModel}
-use Rattle.ground_form.specs.Atoms.{Decides, IsPool, formulas_in, truths_by}
-use Rattle.ground_form.specs.Profile.{IsElementary, the_sort}
-use Rattle.ground_form.specs.declared.pool.Pool.{Pool}
+use Rattle.element_atoms.specs.Atoms.{Decides, IsPool, formulas_in, truths_by}
+use Rattle.element_atoms.specs.Profile.{IsElementary, the_sort}
+use Rattle.element_atoms.specs.declared.pool.Pool.{Pool}
 use Rattle.rule_form.specs.Rules.{pool_terms}
+use Rattle.mbqi_loop.specs.Assigned.{truth_at}
 use Rattle.mbqi_loop.specs.Listed.{IsListed}
 use Rattle.mbqi_loop.specs.declared.listed.Listed.{Listed}
 use Rattle.mbqi_loop.proofs.Agreement.{clauses_agree}

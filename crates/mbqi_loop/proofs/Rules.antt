@@ -19,9 +19,9 @@ use Rattle.function_model.specs.Shown.{shown_of}
 use Rattle.mbqi_terms.specs.Meanings.{truth_of}
 use Rattle.function_model.specs.ValueOf.{Point, value_of}
 use Rattle.function_model.specs.declared.model.FunctionModel.{FunctionModel}
-use Rattle.ground_form.specs.Atoms.{formulas_in}
-use Rattle.ground_form.specs.Profile.{IsArgument, IsClause, IsElementary, IsRule, for_all, the_sort, variables_from}
-use Rattle.ground_form.proofs.Numbers.{length_variables}
+use Rattle.element_atoms.specs.Atoms.{formulas_in}
+use Rattle.element_atoms.specs.Profile.{IsArgument, IsClause, IsElementary, IsRule, for_all, the_sort, variables_from}
+use Rattle.element_atoms.proofs.Numbers.{length_variables}
 use Rattle.rule_form.specs.Rules.{IsChoice, IsOpen, assertion_at, clause_at, clause_of, first_from, first_with, formula_of, line_of, pool_terms, term_at, variables_of}
 use Rattle.mbqi_terms.specs.Substitution.{put_into, put_into_formula}
 use Rattle.rule_form.specs.Instance.{whole_at}

@@ -10,7 +10,7 @@ use Rattle.function_model.specs.Holds.{values_in}
 use Rattle.function_model.specs.Shown.{shown_of}
 use Rattle.mbqi_terms.specs.Meanings.{Meanings, truth_of}
 use Rattle.function_model.specs.declared.model.FunctionModel.{FunctionModel}
-use Rattle.ground_form.specs.Atoms.{formulas_in}
+use Rattle.element_atoms.specs.Atoms.{formulas_in}
 use Rattle.rule_form.specs.Rules.{IsChoice, IsOpen, first_from, line_of, lines_of}
 use Rattle.rule_form.specs.declared.choice.Choice.{Choice}
 use Rattle.mbqi_terms.specs.Lawful.{IsPlainlyLawful}

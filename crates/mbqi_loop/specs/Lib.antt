@@ -2,3 +2,4 @@ pub mod Refuted
 pub mod Outcome
 pub mod Journal
 pub mod Listed
+pub mod Assigned

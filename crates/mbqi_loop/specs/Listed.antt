@@ -5,7 +5,7 @@ use Rattle.mbqi_values.specs.Clauses.{all_true, AreBelow}
 use Rattle.mbqi_terms.specs.declared.script.Function.{Function}
 use Rattle.mbqi_terms.specs.declared.term.Term.{Term}
 use Rattle.mbqi_terms.specs.Meanings.{Meanings, truth_of}
-use Rattle.ground_form.specs.Atoms.{IsOver, formulas_in, truths_by}
+use Rattle.element_atoms.specs.Atoms.{IsOver, formulas_in, truths_by}
 use Rattle.mbqi_loop.specs.declared.listed.Listed.{Listed}
 
 -- The clauses say of each valuation what the instances say, and their atoms are in the table, over the terms of the pool.

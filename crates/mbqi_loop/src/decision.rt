@@ -7,17 +7,17 @@ ghost use Rattle.function_model.specs.Fits.{Fits, NoRowsWithoutArguments};
 ghost use Rattle.function_model.specs.Holds.{Holds};
 ghost use Rattle.function_model.specs.Shown.{shown_of};
 ghost use Rattle.mbqi_terms.specs.Meanings.{Meanings, truth_of};
-ghost use Rattle.ground_form.specs.Atoms.{IsPool, formulas_in};
-ghost use Rattle.ground_form.specs.Profile.{IsElementary};
+ghost use Rattle.element_atoms.specs.Atoms.{IsPool, formulas_in};
+ghost use Rattle.element_atoms.specs.Profile.{IsElementary};
 ghost use Rattle.mbqi_loop.specs.Journal.{IsRound, first_lines};
 ghost use Rattle.mbqi_loop.specs.Listed.{IsListed};
 
 use crate::listed::Listed;
 use crate::outcome::Round;
-use clause_search::{Searched, search_clauses};
+use crate::truths::truths_of;
+use element_atoms::Pool;
 use element_models::element_model;
 use function_model::{shown_fits, shown_has_declared};
-use ground_form::Pool;
 use mbqi_terms::Script;
 use std::alloc::{AllocError, Global};
 use tuple_check::failing_choices;
@@ -41,14 +41,14 @@ pub fn decide(
     ensures refuted { IfOk result (λ found. IfNone found ((m : Meanings) → list_all (truth_of m) (formulas_in listed.now.lines) ≡ false)) }
 {
     let atoms = listed.table.as_slice();
-    match search_clauses(alloc, &listed.clauses, listed.table.len())? {
-        Searched::Found(truths) => {
+    match truths_of(alloc, &listed.clauses, listed.table.len())? {
+        Some(truths) => {
             let model = element_model(alloc, script, pool, atoms, truths.as_slice())?;
             let added = failing_choices(alloc, script, pool, &listed.table, truths.as_slice())?;
             shown_fits();
             shown_has_declared();
             Ok(Some(Round { model, added }))
         }
-        Searched::Closed => Ok(None),
+        None => Ok(None),
     }
 }

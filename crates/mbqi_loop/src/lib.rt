@@ -10,6 +10,7 @@ mod decision;
 mod listed;
 pub mod outcome;
 mod solve;
+mod truths;
 
 pub use outcome::{Journal, Outcome, Round};
 pub use solve::solve_rules;

@@ -1,11 +1,11 @@
 //! The listed instances.
 
 ghost use Rattle.std.specs.Prelude.{◌≡◌, ◌++◌, [], All, IfOk};
-ghost use Rattle.ground_form.specs.Atoms.{IsPool, formulas_in};
-ghost use Rattle.ground_form.specs.Profile.{IsClause, IsGround};
+ghost use Rattle.element_atoms.specs.Atoms.{IsPool, formulas_in};
+ghost use Rattle.element_atoms.specs.Profile.{IsClause, IsGround};
 ghost use Rattle.mbqi_loop.specs.Listed.{IsListed};
 
-use ground_form::{AtomTable, Pool, clauses_of};
+use element_atoms::{AtomTable, Pool, clauses_of};
 use mbqi_terms::{Function, InstanceLines};
 use mbqi_values::{LitLists, Sequence};
 use std::alloc::{AllocError, Global};

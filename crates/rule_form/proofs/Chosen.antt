@@ -11,8 +11,8 @@ use Rattle.mbqi_terms.specs.declared.script.Function.{Function}
 use Rattle.mbqi_terms.specs.declared.script.Script.{Script}
 use Rattle.mbqi_terms.specs.declared.term.Term.{Term}
 use Rattle.mbqi_terms.proofs.Places.{all_at}
-use Rattle.ground_form.specs.Atoms.{formulas_in}
-use Rattle.ground_form.specs.Profile.{IsArgument, IsClause, IsConstant, IsConstantTerm, IsElementary, IsGround, IsPredicate, IsRule, constant, constants_from, constants_of, for_all, is_constant, is_element, seed}
+use Rattle.element_atoms.specs.Atoms.{formulas_in}
+use Rattle.element_atoms.specs.Profile.{IsArgument, IsClause, IsConstant, IsConstantTerm, IsElementary, IsGround, IsPredicate, IsRule, constant, constants_from, constants_of, for_all, is_constant, is_element, seed}
 use Rattle.rule_form.specs.Instance.{IsInstance, whole_at}
 use Rattle.rule_form.specs.Rules.{IsChoice, assertion_at, clause_at, clause_of, first_from, first_with, formula_of, line_of, lines_of, pool_terms, term_at, variables_of}
 use Rattle.rule_form.specs.declared.choice.Choice.{Choice}

@@ -15,9 +15,9 @@ use Rattle.mbqi_terms.specs.declared.term.Term as terms
 use Rattle.mbqi_terms.specs.declared.term.ArrayTerm.TheOpen.{Term-F}
 use Rattle.mbqi_terms.specs.declared.term.Term.{Term, out-Term}
 use Rattle.mbqi_terms.proofs.Levels.{out-apply, out-var}
-use Rattle.ground_form.proofs.Numbers.{same_declared}
+use Rattle.element_atoms.proofs.Numbers.{same_declared}
 use Rattle.mbqi_terms.specs.declared.term.Term.TheVariants as term
-use Rattle.ground_form.specs.Profile.{IsArgument, IsAtom, IsClause, IsGround, IsLiteral, constant}
+use Rattle.element_atoms.specs.Profile.{IsArgument, IsAtom, IsClause, IsGround, IsLiteral, constant}
 use Rattle.rule_form.specs.Rules.{term_at, clause_at}
 use Rattle.mbqi_terms.specs.Substitution.{put_into, put_into_formula, put_formula_layer}
 

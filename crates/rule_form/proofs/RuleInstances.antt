@@ -19,7 +19,7 @@ use Rattle.mbqi_terms.specs.declared.script.Script.{Script}
 use Rattle.mbqi_terms.specs.declared.sort.Binder.{Binder}
 use Rattle.mbqi_terms.specs.declared.term.Term.{Term}
 use Rattle.mbqi_terms.specs.declared.term.Term.TheVariants as term
-use Rattle.ground_form.specs.Profile.{IsArgument, IsClause, IsGround, IsLiteral, IsRule, for_all, variables_from, the_sort}
+use Rattle.element_atoms.specs.Profile.{IsArgument, IsClause, IsGround, IsLiteral, IsRule, for_all, variables_from, the_sort}
 use Rattle.rule_form.specs.Instance.{IsInstance, IsTermFor, below_universal, is_bound, start, term_for, whole, whole_at}
 use Rattle.rule_form.proofs.Wholes.{clause_whole, whole_forall, whole_is}
 use Rattle.rule_form.specs.Rules.{term_at, clause_at}

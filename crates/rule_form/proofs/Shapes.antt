@@ -7,8 +7,8 @@ use Rattle.mbqi_terms.specs.declared.formula.Formula.TheVariants as formula
 use Rattle.mbqi_terms.specs.declared.script.Function.{Function}
 use Rattle.mbqi_terms.specs.declared.sort.Binder.{Binder}
 use Rattle.mbqi_terms.specs.declared.term.Term.{Term}
-use Rattle.ground_form.specs.Profile.{IsArgument, IsClause, IsLiteral, IsRule, for_all, variables_from}
-use Rattle.ground_form.proofs.Numbers.{length_variables}
+use Rattle.element_atoms.specs.Profile.{IsArgument, IsClause, IsLiteral, IsRule, for_all, variables_from}
+use Rattle.element_atoms.proofs.Numbers.{length_variables}
 use Rattle.rule_form.specs.Rules.{variables_of, clause_of}
 
 -- a clause has no variables of its own

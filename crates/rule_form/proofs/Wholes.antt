@@ -11,7 +11,7 @@ use Rattle.mbqi_terms.specs.declared.script.Function.{Function}
 use Rattle.mbqi_terms.specs.declared.sort.Binder.{Binder}
 use Rattle.mbqi_terms.specs.declared.term.Term.{Term}
 use Rattle.mbqi_terms.specs.Substitution.{put_into, put_into_formula}
-use Rattle.ground_form.specs.Profile.{IsArgument, IsClause, IsLiteral}
+use Rattle.element_atoms.specs.Profile.{IsArgument, IsClause, IsLiteral}
 use Rattle.rule_form.specs.Instance.{EachInstance, Instantiation, InstanceAt, below_existential, below_universal, whole, whole_each}
 use Rattle.rule_form.specs.Rules.{clause_at, term_at}
 use Rattle.rule_form.proofs.Putting.{alike_atom, put_any, put_atom, put_not}

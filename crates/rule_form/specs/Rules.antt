@@ -10,7 +10,7 @@ use Rattle.mbqi_terms.specs.declared.script.Function.{Function}
 use Rattle.mbqi_terms.specs.declared.script.Script.{Script}
 use Rattle.mbqi_terms.specs.declared.term.Term.{Term}
 use Rattle.mbqi_terms.specs.declared.term.Term.TheVariants as term
-use Rattle.ground_form.specs.Profile.{constants_of, seed}
+use Rattle.element_atoms.specs.Profile.{constants_of, seed}
 use Rattle.mbqi_terms.specs.Substitution.{put_into_formula}
 use Rattle.rule_form.specs.Instance.{whole_at}
 use Rattle.rule_form.specs.declared.choice.Choice.{Choice}

@@ -1,15 +1,15 @@
 //! Ground instances of rules.
 
 ghost use Rattle.std.specs.Prelude.{◌≡◌, [], length, map, All, IfOk};
-ghost use Rattle.ground_form.specs.Atoms.{formulas_in};
-ghost use Rattle.ground_form.specs.Profile.{IsArgument, IsAtom, IsClause, IsElementary, IsGround, IsLiteral, IsRule};
+ghost use Rattle.element_atoms.specs.Atoms.{formulas_in};
+ghost use Rattle.element_atoms.specs.Profile.{IsArgument, IsAtom, IsClause, IsElementary, IsGround, IsLiteral, IsRule};
 ghost use Rattle.rule_form.specs.Instance.{IsInstance, whole_at};
 ghost use Rattle.rule_form.specs.Rules.{IsChoice, clause_at, first_from, line_of, lines_of, term_at, variables_of};
 ghost use Rattle.mbqi_terms.specs.Substitution.{put_into, put_into_formula};
 
 use crate::choice::Choice;
 use crate::parts::rule_parts;
-use ground_form::declared;
+use element_atoms::declared;
 use mbqi_terms::{
     Formula, Formulas, Function, InstanceLine, InstanceLines, Script, Symbol, Term, Terms,
     copy_formula, copy_term, copy_terms,

@@ -12,10 +12,10 @@ use Rattle.mbqi_terms.specs.declared.script.Script.{Script}
 use Rattle.mbqi_terms.specs.declared.term.Term.{Term}
 use Rattle.mbqi_terms.proofs.Places.{all_at}
 use Rattle.mbqi_terms.specs.Meanings.{Meanings, truth_of}
-use Rattle.ground_form.specs.Atoms.{Decides, IsPool}
-use Rattle.ground_form.specs.Profile.{IsArgument, IsClause, IsElementary, IsRule, seed}
-use Rattle.ground_form.specs.declared.atoms.GroundAtom.{GroundAtom}
-use Rattle.ground_form.specs.declared.pool.Pool.{Pool}
+use Rattle.element_atoms.specs.Atoms.{Decides, IsPool}
+use Rattle.element_atoms.specs.Profile.{IsArgument, IsClause, IsElementary, IsRule, seed}
+use Rattle.element_atoms.specs.declared.atoms.GroundAtom.{GroundAtom}
+use Rattle.element_atoms.specs.declared.pool.Pool.{Pool}
 use Rattle.rule_form.specs.Rules.{IsChoice, IsOpen, assertion_at, clause_at, clause_of, formula_of, line_of, pool_terms, variables_of}
 use Rattle.rule_form.specs.declared.choice.Choice.{Choice}
 use Rattle.rule_form.proofs.Chosen.{line_clause}

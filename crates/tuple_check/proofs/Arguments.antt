@@ -12,11 +12,11 @@ use Rattle.mbqi_terms.specs.declared.term.Term.TheVariants as term
 use Rattle.mbqi_terms.specs.declared.term.ArrayTerm.TheOpen.{Term-F}
 use Rattle.mbqi_terms.specs.declared.term_id.TermId.{TermId}
 use Rattle.mbqi_terms.proofs.Levels.{out-apply, out-declared, out-var}
-use Rattle.ground_form.specs.Atoms.{IsOver, IsPool, atom_tree}
-use Rattle.ground_form.specs.Numbering.{number_of_symbol}
-use Rattle.ground_form.specs.Profile.{IsArgument, IsAtom, constant, seed}
-use Rattle.ground_form.specs.declared.pool.Pool.{Pool}
-use Rattle.ground_form.proofs.Numbers.{same_declared}
+use Rattle.element_atoms.specs.Atoms.{IsOver, IsPool, atom_tree}
+use Rattle.element_atoms.specs.Numbering.{number_of_symbol}
+use Rattle.element_atoms.specs.Profile.{IsArgument, IsAtom, constant, seed}
+use Rattle.element_atoms.specs.declared.pool.Pool.{Pool}
+use Rattle.element_atoms.proofs.Numbers.{same_declared}
 use Rattle.rule_form.specs.Rules.{term_at}
 use Rattle.mbqi_terms.specs.Substitution.{put_into}
 use Rattle.rule_form.proofs.Putting.{put_apply, put_constant, put_variable}

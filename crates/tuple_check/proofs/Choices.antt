@@ -11,10 +11,10 @@ use Rattle.mbqi_terms.specs.declared.term.Symbol.{out-Symbol}
 use Rattle.mbqi_terms.specs.declared.term.Symbol.TheVariants as symbol
 use Rattle.mbqi_terms.specs.declared.term.Term.{Term, out-Term}
 use Rattle.mbqi_terms.proofs.Levels.{out-apply, out-declared, out-seed}
-use Rattle.ground_form.specs.Profile.{constant, constants_from, constants_of, is_constant, seed}
-use Rattle.ground_form.specs.declared.atoms.GroundAtom.{GroundAtom}
-use Rattle.ground_form.specs.declared.pool.Pool.{Pool}
-use Rattle.ground_form.proofs.Numbers.{same_declared}
+use Rattle.element_atoms.specs.Profile.{constant, constants_from, constants_of, is_constant, seed}
+use Rattle.element_atoms.specs.declared.atoms.GroundAtom.{GroundAtom}
+use Rattle.element_atoms.specs.declared.pool.Pool.{Pool}
+use Rattle.element_atoms.proofs.Numbers.{same_declared}
 use Rattle.rule_form.specs.Rules.{pool_terms}
 use Rattle.tuple_check.specs.Failing.{choice_of, failing_of, fails_at}
 use Rattle.tuple_check.specs.Tuples.{tuples_where}

@@ -13,11 +13,11 @@ use Rattle.mbqi_terms.specs.declared.script.Function.{Function}
 use Rattle.mbqi_terms.specs.declared.term.Term.{Term}
 use Rattle.mbqi_terms.specs.Meanings.{Meanings, truth_layer as meaning_layer, truth_of}
 use Rattle.mbqi_values.specs.Value.{is_true}
-use Rattle.ground_form.specs.Atoms.{Decides, IsOver, IsPool, atom_tree, same_atom, truth_in}
-use Rattle.ground_form.specs.Profile.{IsArgument, IsAtom, IsClause, IsLiteral}
-use Rattle.ground_form.specs.declared.atoms.GroundAtom.{GroundAtom}
-use Rattle.ground_form.specs.declared.pool.Pool.{Pool}
-use Rattle.ground_form.proofs.AtomTest.{own_atom, same_atoms, same_test}
+use Rattle.element_atoms.specs.Atoms.{Decides, IsOver, IsPool, atom_tree, same_atom, truth_in}
+use Rattle.element_atoms.specs.Profile.{IsArgument, IsAtom, IsClause, IsLiteral}
+use Rattle.element_atoms.specs.declared.atoms.GroundAtom.{GroundAtom}
+use Rattle.element_atoms.specs.declared.pool.Pool.{Pool}
+use Rattle.element_atoms.proofs.AtomTest.{own_atom, same_atoms, same_test}
 use Rattle.rule_form.specs.Rules.{clause_at, term_at}
 use Rattle.mbqi_terms.specs.Substitution.{put_into, put_into_formula}
 use Rattle.rule_form.proofs.Putting.{put_any, put_atom, put_not}

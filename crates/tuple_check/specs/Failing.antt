@@ -12,11 +12,11 @@ use Rattle.mbqi_terms.specs.declared.term.Symbol.{Symbol, out-Symbol}
 use Rattle.mbqi_terms.specs.declared.term.Term.{Term, out-Term}
 use Rattle.mbqi_terms.specs.declared.term.Term.TheVariants as term
 use Rattle.mbqi_terms.specs.declared.term_id.TermId.{TermId}
-use Rattle.ground_form.specs.Atoms.{truth_in}
-use Rattle.ground_form.specs.Numbering.{IsNumbered, number_layer}
-use Rattle.ground_form.specs.Profile.{seed}
-use Rattle.ground_form.specs.declared.atoms.GroundAtom.{GroundAtom}
-use Rattle.ground_form.specs.declared.pool.Pool.{Pool}
+use Rattle.element_atoms.specs.Atoms.{truth_in}
+use Rattle.element_atoms.specs.Numbering.{IsNumbered, number_layer}
+use Rattle.element_atoms.specs.Profile.{seed}
+use Rattle.element_atoms.specs.declared.atoms.GroundAtom.{GroundAtom}
+use Rattle.element_atoms.specs.declared.pool.Pool.{Pool}
 use Rattle.rule_form.specs.Rules.{variables_of, clause_of}
 use Rattle.rule_form.specs.declared.choice.Choice.{Choice}
 use Rattle.tuple_check.specs.Tuples.{tuples_where}

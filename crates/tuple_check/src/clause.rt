@@ -2,11 +2,11 @@
 
 ghost use Rattle.std.specs.Prelude.{◌≡◌, length, map, All, IfOk};
 ghost use Rattle.std.specs.List.{list_any};
-ghost use Rattle.ground_form.specs.Atoms.{IsPool};
-ghost use Rattle.ground_form.specs.Profile.{IsArgument, IsAtom, IsClause, IsLiteral};
+ghost use Rattle.element_atoms.specs.Atoms.{IsPool};
+ghost use Rattle.element_atoms.specs.Profile.{IsArgument, IsAtom, IsClause, IsLiteral};
 ghost use Rattle.tuple_check.specs.Failing.{IsPlaced, argument_at, atom_at_tuple, id_of, truth_at};
 
-use ground_form::{AtomTable, GroundAtom, Pool, declared};
+use element_atoms::{AtomTable, GroundAtom, Pool, declared};
 use mbqi_terms::{Formula, Function, Term, TermId, TermIds};
 use std::alloc::{AllocError, Global};
 

@@ -3,15 +3,15 @@
 ghost use Rattle.std.specs.Prelude.{◌≡◌, ◌<◌, ◌+◌, ◌++◌, [], length, map, false, true, All, IfOk, OnOk};
 ghost use Rattle.mbqi_terms.specs.Meanings.{Meanings, truth_of};
 ghost use Rattle.mbqi_terms.specs.Distinct.{AreDistinct};
-ghost use Rattle.ground_form.specs.Atoms.{Decides, IsPool};
-ghost use Rattle.ground_form.specs.Profile.{IsArgument, IsClause, IsElementary, IsRule};
+ghost use Rattle.element_atoms.specs.Atoms.{Decides, IsPool};
+ghost use Rattle.element_atoms.specs.Profile.{IsArgument, IsClause, IsElementary, IsRule};
 ghost use Rattle.rule_form.specs.Rules.{IsChoice, IsOpen, clause_of, line_of, variables_of};
 ghost use Rattle.rule_form.specs.declared.choice.Choice.{Choice};
 ghost use Rattle.tuple_check.specs.Failing.{choice_of, failing_from, failing_of, fails_at, term_in};
 ghost use Rattle.tuple_check.specs.Tuples.{tuples_where};
 
 use crate::clause::is_true_at;
-use ground_form::{AtomTable, Pool};
+use element_atoms::{AtomTable, Pool};
 use mbqi_terms::{Formula, Function, Script, Terms, copy_term};
 use rule_form::{Choice, Choices, rule_parts};
 use std::alloc::{AllocError, Global};

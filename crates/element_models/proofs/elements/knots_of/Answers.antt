@@ -1,7 +1,7 @@
 use Rattle.std.proofs.lemmas.List.{map_more}
 use Rattle.mbqi_terms.specs.declared.sort.Sort.{Sort}
 use Rattle.element_models.specs.Elements.{elements_from}
-use Rattle.ground_form.specs.Profile.{the_sort}
+use Rattle.element_atoms.specs.Profile.{the_sort}
 use Rattle.element_models.proofs.elements.knots_of.Goals as goal
 
 -- one more argument has the same knots

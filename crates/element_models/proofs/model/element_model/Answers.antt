@@ -10,9 +10,9 @@ use Rattle.function_model.specs.Holds.{nowhere, values_in}
 use Rattle.function_model.specs.ValueOf.{value_of}
 use Rattle.function_model.specs.declared.model.FunctionModel.{FunctionModel}
 use Rattle.function_model.specs.declared.model.Table.{Table}
-use Rattle.ground_form.specs.Atoms.{Decides, IsOver}
-use Rattle.ground_form.specs.Profile.{is_element}
-use Rattle.ground_form.specs.declared.atoms.GroundAtom.{GroundAtom}
+use Rattle.element_atoms.specs.Atoms.{Decides, IsOver}
+use Rattle.element_atoms.specs.Profile.{is_element}
+use Rattle.element_atoms.specs.declared.atoms.GroundAtom.{GroundAtom}
 use Rattle.element_models.specs.Elements.{tables_from, hidden_from}
 use Rattle.element_models.specs.Filling.{AreTables, IsRaised, NamesPredicate}
 use Rattle.element_models.specs.Rows.{rows_of}

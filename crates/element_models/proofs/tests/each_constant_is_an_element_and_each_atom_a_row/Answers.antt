@@ -1,8 +1,8 @@
 use Rattle.std.proofs.Common.{◌∙◌, List, sym, subst}
 use Rattle.std.specs.Prelude.{All}
 use Rattle.mbqi_terms.specs.declared.script.Function.{Function}
-use Rattle.ground_form.specs.Atoms.{IsOver}
-use Rattle.ground_form.specs.declared.pool.Pool.{Pool}
+use Rattle.element_atoms.specs.Atoms.{IsOver}
+use Rattle.element_atoms.specs.declared.pool.Pool.{Pool}
 use Rattle.element_models.specs.Example.{example_functions, example_pool}
 use Rattle.element_models.proofs.Example.{example_over}
 use Rattle.element_models.proofs.tests.each_constant_is_an_element_and_each_atom_a_row.Goals as goal

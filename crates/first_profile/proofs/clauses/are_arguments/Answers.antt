@@ -1,4 +1,4 @@
-use Rattle.ground_form.specs.Profile.{IsArgument}
+use Rattle.element_atoms.specs.Profile.{IsArgument}
 use Rattle.first_profile.proofs.Deciding.{all_more}
 use Rattle.first_profile.proofs.clauses.are_arguments.Goals as goal
 

@@ -1,6 +1,6 @@
 use Rattle.std.proofs.Common.{take}
 use Rattle.std.specs.List.{AllByRecursion}
-use Rattle.ground_form.specs.Profile.{IsArgument}
+use Rattle.element_atoms.specs.Profile.{IsArgument}
 use Rattle.first_profile.proofs.clauses.are_arguments.Given as goal
 
 abbrev pub invariant-loop-t : goal.invariant-loop-t

@@ -1,6 +1,6 @@
 use Rattle.std.proofs.Common.{take}
 use Rattle.std.specs.List.{AllByRecursion}
-use Rattle.ground_form.specs.Profile.{IsArgument, IsLiteral}
+use Rattle.element_atoms.specs.Profile.{IsArgument, IsLiteral}
 use Rattle.first_profile.proofs.clauses.are_literals.Given as goal
 
 abbrev pub invariant-loop-formula : goal.invariant-loop-formula

@@ -1,4 +1,4 @@
-use Rattle.ground_form.specs.Profile.{IsArgument}
+use Rattle.element_atoms.specs.Profile.{IsArgument}
 use Rattle.first_profile.proofs.Deciding.{atom_parts}
 use Rattle.first_profile.proofs.clauses.is_atom.Goals as goal
 

@@ -2,7 +2,7 @@ use Rattle.std.proofs.Common.{IsTrue, List, subst}
 use Rattle.std.specs.Prelude.{◌↔◌}
 use Rattle.std.specs.List.{AllByRecursion}
 use Rattle.mbqi_terms.specs.declared.formula.Formula.{Formula}
-use Rattle.ground_form.specs.Profile.{IsArgument, IsLiteral}
+use Rattle.element_atoms.specs.Profile.{IsArgument, IsLiteral}
 use Rattle.first_profile.proofs.Deciding.{any_parts}
 use Rattle.first_profile.proofs.clauses.is_clause.Goals as goal
 

@@ -1,6 +1,6 @@
 use Rattle.std.proofs.Common.{◌≡◌, take}
 use Rattle.std.specs.List.{AllByRecursion}
-use Rattle.ground_form.specs.Profile.{the_sort}
+use Rattle.element_atoms.specs.Profile.{the_sort}
 use Rattle.first_profile.proofs.functions.are_the_sort.Given as goal
 
 abbrev pub invariant-loop-sort : goal.invariant-loop-sort

@@ -1,6 +1,6 @@
 use Rattle.std.proofs.Common.{take}
 use Rattle.std.specs.List.{AllByRecursion}
-use Rattle.ground_form.specs.Profile.{IsRule}
+use Rattle.element_atoms.specs.Profile.{IsRule}
 use Rattle.first_profile.proofs.rules.are_rules.Given as goal
 
 abbrev pub invariant-loop-assertion : goal.invariant-loop-assertion

@@ -2,7 +2,7 @@ use Rattle.std.proofs.Common.{◌∙◌, List, [], ◌∷◌, ◌++◌, ap, take
 use Rattle.std.proofs.lemmas.List.{take_more}
 use Rattle.mbqi_terms.specs.declared.sort.Binder.{Binder}
 use Rattle.mbqi_terms.specs.declared.sort.Sort.TheVariants as sort
-use Rattle.ground_form.specs.Profile.{the_sort}
+use Rattle.element_atoms.specs.Profile.{the_sort}
 use Rattle.first_profile.proofs.Deciding.{next_variable, variable_at}
 use Rattle.first_profile.proofs.rules.are_variables.Goals as goal
 

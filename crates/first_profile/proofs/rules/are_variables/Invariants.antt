@@ -1,5 +1,5 @@
 use Rattle.std.proofs.Common.{◌≡◌, take}
-use Rattle.ground_form.specs.Profile.{variables_from}
+use Rattle.element_atoms.specs.Profile.{variables_from}
 use Rattle.first_profile.proofs.rules.are_variables.Given as goal
 
 abbrev pub invariant-loop-place : goal.invariant-loop-place

@@ -2,7 +2,7 @@ use Rattle.std.proofs.Common.{IsTrue, List, ℕ, length, subst}
 use Rattle.std.specs.Prelude.{◌↔◌}
 use Rattle.mbqi_terms.specs.declared.formula.Formula.{Formula}
 use Rattle.mbqi_terms.specs.declared.sort.Binder.{Binder}
-use Rattle.ground_form.specs.Profile.{IsArgument, IsClause}
+use Rattle.element_atoms.specs.Profile.{IsArgument, IsClause}
 use Rattle.first_profile.specs.Parts.{AreVariables}
 use Rattle.first_profile.proofs.Deciding.{forall_parts, plain_parts}
 use Rattle.first_profile.proofs.rules.is_rule.Goals as goal

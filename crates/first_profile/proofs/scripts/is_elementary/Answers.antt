@@ -3,7 +3,7 @@ use Rattle.std.specs.Prelude.{◌↔◌}
 use Rattle.std.specs.List.{AllByRecursion}
 use Rattle.mbqi_terms.specs.declared.script.Assertion.{Assertion}
 use Rattle.mbqi_terms.specs.declared.script.Function.{Function}
-use Rattle.ground_form.specs.Profile.{IsRule}
+use Rattle.element_atoms.specs.Profile.{IsRule}
 use Rattle.first_profile.proofs.scripts.is_elementary.Goals as goal
 
 pub returns-then-are_declarations : goal.returns-then-are_declarations

@@ -2,9 +2,9 @@ use Rattle.std.proofs.Common.{All, List, sym, ap, subst, ◌∙◌}
 use Rattle.std.specs.List.{list_all}
 use Rattle.mbqi_terms.specs.declared.instance.InstanceLine.{InstanceLine}
 use Rattle.mbqi_terms.specs.Meanings.{truth_of}
-use Rattle.ground_form.specs.Atoms.{formulas_in}
-use Rattle.ground_form.specs.Profile.{IsClause, IsGround}
-use Rattle.ground_form.specs.declared.atoms.GroundAtom.{GroundAtom}
+use Rattle.element_atoms.specs.Atoms.{formulas_in}
+use Rattle.element_atoms.specs.Profile.{IsClause, IsGround}
+use Rattle.element_atoms.specs.declared.atoms.GroundAtom.{GroundAtom}
 use Rattle.mbqi_loop.specs.Listed.{IsListed}
 use Rattle.mbqi_loop.specs.declared.listed.Listed.{Listed}
 use Rattle.mbqi_loop.proofs.Listing.{listed_append}

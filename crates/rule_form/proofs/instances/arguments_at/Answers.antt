@@ -1,5 +1,5 @@
 use Rattle.std.proofs.Common.{length, sym, subst}
-use Rattle.ground_form.specs.Profile.{IsArgument}
+use Rattle.element_atoms.specs.Profile.{IsArgument}
 use Rattle.rule_form.proofs.instances.arguments_at.Goals as goal
 
 pub argument_at-requires : goal.argument_at-requires

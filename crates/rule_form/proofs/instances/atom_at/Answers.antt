@@ -1,7 +1,7 @@
 use Rattle.std.proofs.Common.{length, sym, ap, ◌∙◌}
 use Rattle.mbqi_terms.specs.declared.term.Symbol.TheVariants as symbol
 use Rattle.mbqi_terms.specs.declared.term.Term.TheVariants as term
-use Rattle.ground_form.specs.Profile.{IsArgument}
+use Rattle.element_atoms.specs.Profile.{IsArgument}
 use Rattle.rule_form.specs.Rules.{term_at}
 use Rattle.mbqi_terms.specs.Substitution.{put_into}
 use Rattle.rule_form.proofs.Putting.{atom_arguments, put_apply}

@@ -1,8 +1,8 @@
 use Rattle.std.proofs.Common.{All, sym, ap, subst, ◌∙◌, arith}
 use Rattle.std.proofs.lemmas.List.{take_all}
 use Rattle.mbqi_terms.specs.declared.instance.InstanceLine.{InstanceLine}
-use Rattle.ground_form.specs.Atoms.{formulas_in}
-use Rattle.ground_form.specs.Profile.{IsClause, IsGround}
+use Rattle.element_atoms.specs.Atoms.{formulas_in}
+use Rattle.element_atoms.specs.Profile.{IsClause, IsGround}
 use Rattle.rule_form.specs.Instance.{IsInstance}
 use Rattle.rule_form.specs.Rules.{lines_of}
 use Rattle.rule_form.proofs.Chosen.{lines_ground, lines_instances}

@@ -1,7 +1,7 @@
 use Rattle.std.proofs.Common.{All, length, sym, ap, subst, ◌∙◌}
 use Rattle.mbqi_terms.specs.declared.formula.Formula.TheVariants as formula
-use Rattle.ground_form.specs.Profile.{IsArgument, IsLiteral}
-use Rattle.ground_form.proofs.Truths.{any_literals}
+use Rattle.element_atoms.specs.Profile.{IsArgument, IsLiteral}
+use Rattle.element_atoms.proofs.Truths.{any_literals}
 use Rattle.rule_form.specs.Rules.{term_at}
 use Rattle.mbqi_terms.specs.Substitution.{put_into_formula}
 use Rattle.rule_form.proofs.Putting.{put_any}

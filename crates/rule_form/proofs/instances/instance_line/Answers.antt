@@ -3,7 +3,7 @@ use Rattle.std.specs.Prelude.{slice_index_or}
 use Rattle.std.proofs.lemmas.Option.{slice_get_read}
 use Rattle.mbqi_terms.specs.declared.formula.Formula.{Formula}
 use Rattle.mbqi_terms.specs.declared.script.Assertion.{Assertion}
-use Rattle.ground_form.specs.Profile.{IsArgument, IsClause}
+use Rattle.element_atoms.specs.Profile.{IsArgument, IsClause}
 use Rattle.rule_form.specs.Rules.{assertion_at, clause_at, clause_of, formula_of, line_of}
 use Rattle.rule_form.proofs.Chosen.{chosen, chosen_clause, line_clause}
 use Rattle.rule_form.proofs.instances.instance_line.Goals as goal

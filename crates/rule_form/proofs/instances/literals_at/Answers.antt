@@ -1,5 +1,5 @@
 use Rattle.std.proofs.Common.{length, sym, subst}
-use Rattle.ground_form.specs.Profile.{IsArgument, IsLiteral}
+use Rattle.element_atoms.specs.Profile.{IsArgument, IsLiteral}
 use Rattle.rule_form.proofs.instances.literals_at.Goals as goal
 
 pub literal_at-requires : goal.literal_at-requires

@@ -1,6 +1,6 @@
 use Rattle.mbqi_terms.specs.declared.formula.Formula.{Formula}
 use Rattle.std.proofs.Common.{Bool, not, sym, ap, ◌∙◌}
-use Rattle.ground_form.specs.Atoms.{truth_in}
+use Rattle.element_atoms.specs.Atoms.{truth_in}
 use Rattle.tuple_check.specs.Failing.{truth_at}
 use Rattle.tuple_check.proofs.Truths.{out_atom, out_not}
 use Rattle.tuple_check.proofs.clause.is_literal_true_at.Goals as goal

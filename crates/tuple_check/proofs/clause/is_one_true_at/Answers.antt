@@ -1,5 +1,5 @@
 use Rattle.std.proofs.Common.{length, sym, subst}
-use Rattle.ground_form.specs.Profile.{IsArgument, IsLiteral}
+use Rattle.element_atoms.specs.Profile.{IsArgument, IsLiteral}
 use Rattle.tuple_check.proofs.clause.is_one_true_at.Goals as goal
 
 pub is_literal_true_at-requires-clause-literal : goal.is_literal_true_at-requires-clause-literal

@@ -1,8 +1,8 @@
 use Rattle.std.proofs.Common.{◌≡◌, All, Bool, length, sym, ap, subst, ◌∙◌, IfOk}
 use Rattle.std.specs.List.{list_any}
 use Rattle.mbqi_terms.specs.declared.formula.Formula.{Formula}
-use Rattle.ground_form.specs.Profile.{IsArgument, IsLiteral}
-use Rattle.ground_form.proofs.Truths.{any_literals}
+use Rattle.element_atoms.specs.Profile.{IsArgument, IsLiteral}
+use Rattle.element_atoms.proofs.Truths.{any_literals}
 use Rattle.tuple_check.specs.Failing.{truth_at}
 use Rattle.tuple_check.proofs.Truths.{out_any}
 use Rattle.tuple_check.proofs.clause.is_true_at.Goals as goal

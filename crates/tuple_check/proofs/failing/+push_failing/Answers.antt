@@ -1,6 +1,6 @@
 use Rattle.std.proofs.Common.{◌≡◌, ◌+◌, ◌-◌, ◌<◌, All, [], ◌∷◌, ◌++◌, length, map, sym, ap, subst, ◌∙◌, arith, length-append}
 use Rattle.std.proofs.lemmas.List.Elements.{All-nil, All-cons, All-append}
-use Rattle.ground_form.specs.Profile.{IsArgument, IsClause}
+use Rattle.element_atoms.specs.Profile.{IsArgument, IsClause}
 use Rattle.tuple_check.specs.Failing.{choice_of, fails_at}
 use Rattle.tuple_check.specs.Tuples.{joined_below, tuples_where}
 use Rattle.tuple_check.proofs.TupleLists.{one_more}

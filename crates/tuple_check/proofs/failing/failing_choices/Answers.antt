@@ -6,9 +6,9 @@ use Rattle.mbqi_terms.specs.Distinct.{AreDistinct}
 use Rattle.mbqi_terms.specs.declared.script.Assertion.{Assertion}
 use Rattle.mbqi_terms.proofs.Places.{all_at}
 use Rattle.mbqi_terms.specs.Meanings.{truth_of}
-use Rattle.ground_form.specs.Profile.{IsRule}
-use Rattle.ground_form.specs.declared.atoms.GroundAtom.{GroundAtom}
-use Rattle.ground_form.specs.declared.pool.Pool.{Pool}
+use Rattle.element_atoms.specs.Profile.{IsRule}
+use Rattle.element_atoms.specs.declared.atoms.GroundAtom.{GroundAtom}
+use Rattle.element_atoms.specs.declared.pool.Pool.{Pool}
 use Rattle.rule_form.specs.declared.choice.Choice.{Choice}
 use Rattle.rule_form.specs.Rules.{IsChoice, IsOpen, line_of}
 use Rattle.tuple_check.specs.Failing.{failing_from}

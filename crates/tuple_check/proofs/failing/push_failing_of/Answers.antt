@@ -1,5 +1,5 @@
 use Rattle.std.proofs.Common.{◌≡◌, ◌+◌, ◌<◌, OnOk, [], ◌++◌, length, map, sym, ap, subst, ◌∙◌, arith}
-use Rattle.ground_form.specs.Profile.{IsArgument, IsClause}
+use Rattle.element_atoms.specs.Profile.{IsArgument, IsClause}
 use Rattle.rule_form.specs.Rules.{clause_of, variables_of}
 use Rattle.rule_form.proofs.Shapes.{rule_clause, rule_variables}
 use Rattle.tuple_check.specs.Failing.{choice_of, fails_at}

@@ -1,0 +1,17 @@
+use Rattle.std.proofs.Common.{◌≡◌, true, take}
+use Rattle.std.specs.List.{list_all}
+use Rattle.clause_search.specs.Course.{truths_of, Extends}
+use Rattle.clause_search.specs.Standing.{IsSound, Stands}
+use Rattle.clause_search.specs.Truths.{decided_on}
+use Rattle.clause_search.proofs.passes.fill.Given as goal
+
+abbrev pub invariant-loop-clause : goal.invariant-loop-clause
+invariant-loop-clause g l =
+    let theory = g.T.Theory in
+    record {
+      same : theory.problem l.theory ≡ theory.problem l.fn.theory;
+      stands : Stands theory l.theory l.trail;
+      sound : IsSound (theory.lawful (theory.problem l.theory)) l.clauses l.trail;
+      extends : Extends l.fn.trail l.trail;
+      decided : list_all (decided_on (truths_of l.trail)) (take l.clause-index l.clauses) ≡ true;
+    }

@@ -1,0 +1,10 @@
+use Rattle.std.proofs.Common.{subst}
+use Rattle.function_model.specs.Evaluable.{IsEvaluableFormula}
+use Rattle.function_model.proofs.FormulaTruths.{at_most_parts}
+use Rattle.function_model.proofs.parts.at_most_parts.Goals as goal
+
+pub returns-clause-left : goal.returns-clause-left
+returns-clause-left c = (at_most_parts c.args.left.now c.args.right.now (subst IsEvaluableFormula c.requires.at_most c.requires.formula)).0
+
+pub returns-clause-right : goal.returns-clause-right
+returns-clause-right c = (at_most_parts c.args.left.now c.args.right.now (subst IsEvaluableFormula c.requires.at_most c.requires.formula)).1
